@@ -1,0 +1,4 @@
+pub mod Pick
+pub mod Words
+pub mod WordLaws
+pub mod ListLaws

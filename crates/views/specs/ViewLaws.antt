@@ -5,14 +5,20 @@ use mathlib.Core.Bool.{Bool, true, false}
 use Prim.Native.Nat.{ℕ, zero, suc, _+_, _-_, _*_, _^_, _≤_, _<_}
 use native.Mathlib.Nat.{add-zero, zero-add, suc-add}
 use native.Mathlib.Omega.{arith}
-use borrow.Author.Tests.{le-leb, lt-leb, leb-true, leb-false}
+use borrow.Author.Tests.{lt-ltb, le-ltb, le-leb, lt-leb, leb-true, leb-false}
 use lib.Dec.{leb}
-use lib.ListN.{length, take, drop, getD, length-append, length-take, length-drop}
+use lib.ListN.{drop-of-length-le, length, take, drop, getD, length-append, length-take, length-drop}
 use lib.Seq.{take-nil, take-append-le, take-at, drop-at, take-all, take-take, drop-drop, length-take-le, paste, take-paste, drop-paste}
 use Rattle.words.specs.Pick.{pick}
 use Rattle.words.specs.Words.{Bytes, wordAt, enc, dec, pad}
 use Rattle.words.specs.WordLaws.{word-lt}
 use Rattle.words.specs.ListLaws.{length-enc, dec-enc, length-pad, take-pad, pad-short, take-length-pad, word-dec, word-part, bytes-part}
+use Rattle.bounds.specs.Bounds.{byteLimit}
+use Rattle.bounds.specs.Refusals.{refuse}
+use Rattle.bounds.specs.declared.Why.the-variants.{Accepted, Refused}
+use Rattle.bounds.specs.declared.Refusal.the-variants.{TooLong}
+use Rattle.views.specs.declared.Made.{Made}
+use Rattle.views.specs.Made.{viewWhy, makeOf}
 use Rattle.views.specs.View.{viewSize, shortMost, isShort, lengthOf, bodyOf, prefixOf, blockOf, offsetOf, shortView, longView, makeView, zeroView, viewAt}
 
 -- a number of four bytes that stands at place i comes back
@@ -194,3 +200,20 @@ module _ (vs v : List ℕ) (r : ℕ) (len : length v ≡ viewSize) (room : viewS
   pub view-after : (q : ℕ) → r < q → viewAt (paste vs (viewSize * r) v viewSize) q ≡ viewAt vs q
   unfolding viewAt
   view-after q h = part-after vs v (16 * r) 16 (16 * q) 16 (omega arith) (omega arith) (omega arith)
+
+-- a view stored over sixteen bytes is all of them
+pub view-whole : (d v : List ℕ) → length d ≡ viewSize → length v ≡ viewSize → paste d 0 v viewSize ≡ v
+view-whole d v h g =
+    let none : drop 16 d ≡ [] = drop-of-length-le d {i = 16} (omega arith) in
+    rw (take-all 16 v (omega arith), none, append-nil v)
+
+-- ---- the call that makes one
+
+module _ (x : List ℕ) (b o : ℕ) where
+  pub made-accepted : length x ≤ byteLimit → makeOf x b o ≡ record { why = Accepted; view = makeView x b o }
+  unfolding makeOf viewWhy refuse
+  made-accepted h = rw (le-ltb byteLimit (length x) h)
+
+  pub made-refused : byteLimit < length x → makeOf x b o ≡ record { why = Refused TooLong; view = zeroView }
+  unfolding makeOf viewWhy refuse
+  made-refused h = rw (lt-ltb byteLimit (length x) h)

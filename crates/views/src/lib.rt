@@ -2,7 +2,12 @@
 ghost use mathlib.Core.Path.{_≡_};
 ghost use Prim.Native.Nat.{_+_, _*_, _^_, _≤_, _<_};
 ghost use lib.ListN.{length};
-ghost use Rattle.views.specs.View.{viewSize, viewAt, lengthOf, blockOf, offsetOf};
+ghost use lib.Seq.{paste};
+ghost use Rattle.words.specs.Words.{wordAt};
+ghost use Rattle.views.specs.View.{viewSize, shortMost, viewAt, lengthOf, blockOf, offsetOf, shortView, longView, makeView};
+ghost use Rattle.views.specs.Made.{makeOf};
+use bounds::Refusal;
+use bounds::Why;
 
 // Bytes of a view.
 pub const VIEW_SIZE: usize = 16;
@@ -32,4 +37,113 @@ pub fn view_offset(views: &[u8], row: usize) -> usize
     ensures { λ r. ⌜ (r ≡ offsetOf (viewAt (now (views .entry)) row)) × (r < 2 ^ 32) ⌝ }
 {
     words::le32(views, VIEW_SIZE * row + 12) as usize
+}
+
+struct Pair {
+    lo: u64,
+    hi: u64,
+}
+
+// At most three bytes as a number.
+fn few(v: &[u8]) -> u64
+    requires { ⌜ length (now v) < 4 ⌝ }
+    ensures { λ r. ⌜ (r ≡ wordAt (now (v .entry)) 0 4) × (r < 2 ^ 32) ⌝ }
+{
+    let n = v.len();
+    if n == 0 {
+        return 0;
+    }
+    if n == 1 {
+        return words::wide(v[0]);
+    }
+    if n == 2 {
+        return words::wide(v[0]) + 256 * words::wide(v[1]);
+    }
+    words::wide(v[0]) + 256 * words::wide(v[1]) + 65536 * words::wide(v[2])
+}
+
+// The two words of a short view.
+fn words_of(v: &[u8]) -> Pair
+    requires { ⌜ length (now v) ≤ shortMost ⌝ }
+    ensures { λ r. ⌜ (r .lo ≡ length (now (v .entry)) + 4294967296 * wordAt (now (v .entry)) 0 4) × (r .hi ≡ wordAt (now (v .entry)) 4 8) ⌝ }
+{
+    let n = v.len();
+    if n < 4 {
+        let f = few(v);
+        return Pair {
+            lo: n as u64 + 4294967296 * f,
+            hi: 0,
+        };
+    }
+    let f = words::le32(v, 0);
+    let t = words::le32(v, n - 4);
+    if n < 8 {
+        return Pair {
+            lo: n as u64 + 4294967296 * f,
+            hi: t >> (8 * (8 - n) as u64),
+        };
+    }
+    let m = words::le32(v, 4);
+    Pair {
+        lo: n as u64 + 4294967296 * f,
+        hi: m + 4294967296 * (t >> (8 * (12 - n) as u64)),
+    }
+}
+
+// Writes the view of a short value into the sixteen bytes from `o` on.
+pub fn short_view(b: &mut [u8], o: usize, v: &[u8])
+    requires { ⌜ (o + viewSize ≤ length (now b)) × (length (now v) ≤ shortMost) ⌝ }
+    ensures { λ _. ⌜ now (b .exit) ≡ paste (now (b .entry)) o (shortView (now (v .entry))) viewSize ⌝ }
+{
+    let p = words_of(v);
+    let lo = p.lo;
+    let hi = p.hi;
+    words::put64(b, o, lo);
+    words::put64(b, o + 8, hi);
+}
+
+// Writes the view of a long value, which stands at `offset` of a block.
+pub fn long_view(b: &mut [u8], o: usize, v: &[u8], block: u32, offset: u32)
+    requires { ⌜ (o + viewSize ≤ length (now b)) × (4 ≤ length (now v)) × (length (now v) < 2 ^ 32) ⌝ }
+    ensures { λ _. ⌜ now (b .exit) ≡ paste (now (b .entry)) o (longView (now (v .entry)) block offset) viewSize ⌝ }
+{
+    let f = words::le32(v, 0);
+    words::put64(b, o, v.len() as u64 + 4294967296 * f);
+    words::put64(b, o + 8, block as u64 + 4294967296 * (offset as u64));
+}
+
+// Writes the view of a value into the sixteen bytes from `o` on.
+pub fn put_view(b: &mut [u8], o: usize, v: &[u8], block: u32, offset: u32)
+    requires { ⌜ (o + viewSize ≤ length (now b)) × (length (now v) < 2 ^ 32) ⌝ }
+    ensures { λ _. ⌜ now (b .exit) ≡ paste (now (b .entry)) o (makeView (now (v .entry)) block offset) viewSize ⌝ }
+{
+    if v.len() <= SHORT_MOST {
+        short_view(b, o, v);
+    } else {
+        long_view(b, o, v, block, offset);
+    }
+}
+
+// A view beside why it wasn't made; refused, its bytes are zeros.
+pub struct Made {
+    pub why: Why,
+    pub view: [u8; 16],
+}
+
+// The view of a value, which stands at `offset` of a block if it is long.
+pub fn make_view(v: &[u8], block: u32, offset: u32) -> Made
+    ensures { λ r. ⌜ r ≡ makeOf (now (v .entry)) block offset ⌝ }
+{
+    let mut view = [0; 16];
+    if bounds::BYTE_LIMIT < v.len() {
+        return Made {
+            why: Why::Refused(Refusal::TooLong),
+            view,
+        };
+    }
+    put_view(&mut view, 0, v, block, offset);
+    Made {
+        why: Why::Accepted,
+        view,
+    }
 }

@@ -1,0 +1,222 @@
+-- The laws of well-formed text: the two ways to say it agree. Assumes nothing.
+use mathlib.Core.Path.{_≡_, refl, sym, ap, _∙_, subst}
+use mathlib.Core.Bool.{Bool, true, false, true≢false, _&&_}
+use mathlib.Core.List.{List, [], _∷_, _++_}
+use Prim.Native.Nat.{ℕ, zero, suc, _+_, _-_, _≤_, _<_}
+use native.Mathlib.Nat.{zero-add}
+use native.Mathlib.Omega.{arith}
+use borrow.Author.Tests.{leb-true, leb-false, le-leb, lt-leb, ltb-true, eqb-true, eq-eqb}
+use lib.Dec.{leb, ltb, eqb, lit<}
+use lib.ListN.{length, getD, take, drop, length-append, length-drop, take-append-drop}
+use lib.Seq.{drop-append-seam, length-take-le}
+use Rattle.words.specs.Pick.{pick}
+use Rattle.utf8.specs.Table.{Range, _‥_, table, rowAt, within, fits, WellFormed, none, more, led, ledBy, front, badAfter, firstBad, wellFormed}
+
+-- ---- ranges
+
+inside : (b l h : ℕ) → l ≤ b → b ≤ h → within b (l ‥ h) ≡ true
+unfolding within
+inside b l h p q = rw (le-leb l b p, le-leb b h q)
+
+pub under : (b : ℕ) (r : Range) → b < r .lo → within b r ≡ false
+unfolding within
+under b r p = rw (lt-leb (r .lo) b p)
+
+pub past-and : (x : Bool) → x && false ≡ false
+past-and true = refl
+past-and false = refl
+
+pub over : (b : ℕ) (r : Range) → r .hi < b → within b r ≡ false
+unfolding within
+over b r p = rw (lt-leb b (r .hi) p) (past-and (leb (r .lo) b))
+
+pub and-both : (x y : Bool) → x && y ≡ true → (x ≡ true) × (y ≡ true)
+and-both true y e = (refl, e)
+and-both false y e = absurd (true≢false (sym e))
+
+within-bounds : (b : ℕ) (r : Range) → within b r ≡ true → (r .lo ≤ b) × (b ≤ r .hi)
+unfolding within
+within-bounds b r e =
+    let p = and-both (leb (r .lo) b) (leb b (r .hi)) e in
+    (leb-true (r .lo) b (p .0), leb-true b (r .hi) (p .1))
+
+-- ---- a lead byte leaves at most one row, since the rows' first ranges ascend
+
+-- the first range of each row begins above h
+abbrev above : ℕ → List (List Range) → Bool
+above h [] = true
+above h ([] ∷ rows) = false
+above h ((r ∷ rs) ∷ rows) = ltb h (r .lo) && above h rows
+
+abbrev ascending : List (List Range) → Bool
+ascending [] = true
+ascending ([] ∷ rows) = false
+ascending ((r ∷ rs) ∷ rows) = above (r .hi) rows && ascending rows
+
+above-none : (h b : ℕ) (rows : List (List Range)) → above h rows ≡ true → b ≤ h → led b rows ≡ []
+unfolding led
+above-none h b [] e l = refl
+above-none h b ([] ∷ rows) e l = absurd (true≢false (sym e))
+above-none h b ((r ∷ rs) ∷ rows) e l =
+    let p = and-both (ltb h (r .lo)) (above h rows) e in
+    rw (under b r (omega (arith, ltb-true h (r .lo) (p .0)))) (above-none h b rows (p .1) l)
+
+above-at : (h : ℕ) (rows : List (List Range)) (k : ℕ) (r : Range) (rs : List Range) → above h rows ≡ true → k < length rows → getD rows k [] ≡ r ∷ rs → h < r .lo
+above-at h [] k r rs e l q = absurd (omega arith)
+above-at h ([] ∷ rows) k r rs e l q = absurd (true≢false (sym e))
+above-at h ((a ∷ ts) ∷ rows) zero r rs e l q =
+    let p = and-both (ltb h (a .lo)) (above h rows) e in
+    let same : a ≡ r = cc in
+    rw (← same) (ltb-true h (a .lo) (p .0))
+above-at h ((a ∷ ts) ∷ rows) (suc k) r rs e l q =
+    let p = and-both (ltb h (a .lo)) (above h rows) e in
+    above-at h rows k r rs (p .1) (omega arith) q
+
+led-one : (rows : List (List Range)) (k b : ℕ) (r : Range) (rs : List Range) → ascending rows ≡ true → k < length rows → getD rows k [] ≡ r ∷ rs → within b r ≡ true → led b rows ≡ rs ∷ []
+unfolding led
+led-one [] k b r rs e l q w = absurd (omega arith)
+led-one ([] ∷ rows) k b r rs e l q w = absurd (true≢false (sym e))
+led-one ((a ∷ ts) ∷ rows) zero b r rs e l q w =
+    let p = and-both (above (a .hi) rows) (ascending rows) e in
+    let first : a ≡ r = cc in
+    let rest : ts ≡ rs = cc in
+    rw (first, w, rest) (ap (λ (x : List (List Range)). rs ∷ x) (above-none (a .hi) b rows (p .0) (rw first (within-bounds b r w .1))))
+led-one ((a ∷ ts) ∷ rows) (suc k) b r rs e l q w =
+    let p = and-both (above (a .hi) rows) (ascending rows) e in
+    let far : a .hi < r .lo = above-at (a .hi) rows k r rs (p .0) (omega arith) q in
+    rw (over b a (omega (arith, within-bounds b r w))) (led-one rows k b r rs (p .1) (omega arith) q w)
+
+-- row k of the table, where b is in its first range
+led-row : (k b : ℕ) (r : Range) (rs : List Range) → k < length table → rowAt k ≡ r ∷ rs → within b r ≡ true → led b table ≡ rs ∷ []
+led-row k b r rs l q w = led-one table k b r rs refl l q w
+
+pub lead-row : (k b l h : ℕ) (rs : List Range) → k < length table → rowAt k ≡ (l ‥ h) ∷ rs → l ≤ b → b ≤ h → led b table ≡ rs ∷ []
+lead-row k b l h rs n q p r = led-row k b (l ‥ h) rs n q (inside b l h p r)
+
+-- ---- the bytes after the lead
+
+pub fits-none : (rs : List Range) (s : List ℕ) → length s < length rs → fits rs s ≡ false
+unfolding fits
+fits-none [] s h = absurd (omega arith)
+fits-none (r ∷ rs) [] h = refl
+fits-none (r ∷ rs) (b ∷ s) h = rw (fits-none rs s (omega arith)) (past-and (within b r))
+
+fits-append : (rs : List Range) (t s : List ℕ) → fits rs t ≡ true → fits rs (t ++ s) ≡ true
+unfolding fits
+fits-append [] t s e = refl
+fits-append (r ∷ rs) [] s e = absurd (true≢false (sym e))
+fits-append (r ∷ rs) (b ∷ t) s e =
+    let p = and-both (within b r) (fits rs t) e in
+    rw (p .0, fits-append rs t s (p .1))
+
+fits-take : (rs : List Range) (s : List ℕ) → fits rs s ≡ true → fits rs (take (length rs) s) ≡ true
+unfolding fits
+fits-take [] s e = refl
+fits-take (r ∷ rs) [] e = absurd (true≢false (sym e))
+fits-take (r ∷ rs) (b ∷ s) e =
+    let p = and-both (within b r) (fits rs s) e in
+    rw (p .0, fits-take rs s (p .1))
+
+fits-length : (rs : List Range) (s : List ℕ) → fits rs s ≡ true → length rs ≤ length s
+fits-length rs s e = by (leb (length rs) (length s)) refl
+  where
+    by : (x : Bool) → leb (length rs) (length s) ≡ x → length rs ≤ length s
+    by true q = leb-true (length rs) (length s) q
+    by false q = absurd (true≢false (sym e ∙ fits-none rs s (leb-false (length rs) (length s) q)))
+
+-- ---- a sequence at the front is a row of the table, and back
+
+row-front : (k b : ℕ) (t s : List ℕ) (row : List Range) → k < length table → rowAt k ≡ row → length (b ∷ t) ≡ length row → fits row (b ∷ t) ≡ true → front (b ∷ (t ++ s)) ≡ suc (length t)
+unfolding front fits ledBy
+row-front k b t s [] l q n e = absurd (omega arith)
+row-front k b t s (r ∷ rs) l q n e =
+    let p = and-both (within b r) (fits rs t) e in
+    rw (led-row k b r rs l q (p .0), fits-append rs t s (p .1)) (sym n)
+
+-- the row whose ranges the bytes at the front have
+pub record Found (rows : List (List Range)) (s : List ℕ) (n : ℕ) : Type 0 where
+  pub at : ℕ
+  pub in-rows : at < length rows
+  pub fit : fits (getD rows at []) s ≡ true
+  pub len : length (getD rows at []) ≡ n
+
+found-later : (row : List Range) (rows : List (List Range)) (s : List ℕ) (n : ℕ) → Found rows s n → Found (row ∷ rows) s n
+found-later row rows s n f = record { at = suc (f .at); in-rows = omega (arith, f .in-rows); fit = f .fit; len = f .len }
+
+found : (rows : List (List Range)) (b n : ℕ) (s : List ℕ) → ledBy (led b rows) s ≡ suc n → Found rows (b ∷ s) (suc n)
+unfolding led ledBy fits
+found [] b n s e = let z : _≡_ {A = ℕ} 0 (suc n) = e in absurd (omega arith)
+found ([] ∷ rows) b n s e = found-later [] rows (b ∷ s) (suc n) (found rows b n s e)
+found ((r ∷ rs) ∷ rows) b n s e = by (within b r) (fits rs s) refl refl (found rows b n s)
+  where
+    by : (x y : Bool) → within b r ≡ x → fits rs s ≡ y → (ledBy (led b rows) s ≡ suc n → Found rows (b ∷ s) (suc n)) → Found ((r ∷ rs) ∷ rows) (b ∷ s) (suc n)
+    by true true p q ih = record { at = 0; in-rows = omega arith; fit = rw (p, q); len = rw (p, q) at e }
+    by true false p q ih = found-later (r ∷ rs) rows (b ∷ s) (suc n) (ih (rw (p, q) at e))
+    by false y p q ih = found-later (r ∷ rs) rows (b ∷ s) (suc n) (ih (rw p at e))
+
+pub front-row : (b n : ℕ) (s : List ℕ) → front (b ∷ s) ≡ suc n → Found table (b ∷ s) (suc n)
+unfolding front
+front-row b n s e = found table b n s e
+
+-- ---- the walk from sequence to sequence
+
+pub bad-skip : (k : ℕ) (s : List ℕ) → k ≤ length s → badAfter k s ≡ k + firstBad (drop k s)
+unfolding badAfter firstBad
+bad-skip zero s h = sym (zero-add (badAfter 0 s))
+bad-skip (suc k) [] h = absurd (omega arith)
+bad-skip (suc k) (b ∷ s) h = rw (bad-skip k s (omega arith)) (omega arith)
+
+pub judge-one : (b n : ℕ) (s : List ℕ) → front (b ∷ s) ≡ suc n → firstBad (b ∷ s) ≡ suc (badAfter n s)
+unfolding badAfter firstBad
+judge-one b n s e = rw e
+
+pub judge-none : (b : ℕ) (s : List ℕ) → front (b ∷ s) ≡ 0 → firstBad (b ∷ s) ≡ 0
+unfolding badAfter firstBad
+judge-none b s e = rw e
+
+-- ---- well formed, by the table, exactly where no ill-formed sequence begins before the end
+
+formed-good : {s : List ℕ} → WellFormed s → firstBad s ≡ length s
+unfolding badAfter firstBad
+formed-good none = refl
+formed-good (more k [] s l n e w) = formed-good w
+formed-good (more k (b ∷ t) s l n e w) =
+    judge-one b (length t) (t ++ s) (row-front k b t s (rowAt k) l refl n e)
+    ∙ ap suc (bad-skip (length t) (t ++ s) (simp length-append (omega arith)) ∙ rw (drop-append-seam t s, formed-good w) (sym (length-append t s)))
+
+-- shown for lists of at most n bytes, one n after the other
+abbrev Good : ℕ → Type 0
+Good n = (s : List ℕ) → length s ≤ n → firstBad s ≡ length s → WellFormed s
+
+good-next : (n : ℕ) → Good n → Good (suc n)
+good-next n ih [] h e = none
+good-next n ih (b ∷ s) h e = by (front (b ∷ s)) refl
+  where
+    by : (k : ℕ) → front (b ∷ s) ≡ k → WellFormed (b ∷ s)
+    by zero q = let z : _≡_ {A = ℕ} 0 (suc (length s)) = sym (judge-none b s q) ∙ e in absurd (omega arith)
+    by (suc m) q =
+        let f = front-row b m s q in
+        let fit : fits (rowAt (f .at)) (take (suc m) (b ∷ s)) ≡ true = rw (f .len) at (fits-take (rowAt (f .at)) (b ∷ s) (f .fit)) in
+        let most : suc m ≤ length (b ∷ s) = rw (f .len) at (fits-length (rowAt (f .at)) (b ∷ s) (f .fit)) in
+        let len : length (take (suc m) (b ∷ s)) ≡ suc m = length-take-le (suc m) (b ∷ s) most in
+        let left : length (drop m s) ≡ length s - m = length-drop m s in
+        let walk : firstBad (b ∷ s) ≡ suc (m + firstBad (drop m s)) = judge-one b m s q ∙ ap suc (bad-skip m s (omega arith)) in
+        let rest : WellFormed (drop m s) = ih (drop m s) (omega arith) (omega arith) in
+        subst WellFormed (take-append-drop (suc m) (b ∷ s)) (more (f .at) (take (suc m) (b ∷ s)) (drop (suc m) (b ∷ s)) (f .in-rows) (len ∙ sym (f .len)) fit rest)
+
+good-none : Good 0
+good-none [] h e = none
+good-none (b ∷ s) h e = absurd (omega arith)
+
+good-within : (n : ℕ) → Good n
+good-within zero = good-none
+good-within (suc n) = good-next n (good-within n)
+
+-- the question's answer, in both directions
+pub formed-yes : (s : List ℕ) → WellFormed s → wellFormed s ≡ true
+unfolding wellFormed
+formed-yes s w = eq-eqb (firstBad s) (length s) (formed-good w)
+
+pub yes-formed : (s : List ℕ) → wellFormed s ≡ true → WellFormed s
+unfolding wellFormed
+yes-formed s e = good-within (length s) s (omega arith) (eqb-true (firstBad s) (length s) e)

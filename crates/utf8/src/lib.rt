@@ -1,0 +1,159 @@
+// Well-formed UTF-8, and where the first ill-formed sequence begins.
+ghost use mathlib.Core.Path.{_≡_};
+ghost use Prim.Native.Nat.{_+_, _≤_, _<_};
+ghost use lib.ListN.{length, drop};
+ghost use Rattle.utf8.specs.Table.{table, led, ledBy, within, front, firstBad, wellFormed, _‥_};
+ghost use Rattle.utf8.specs.Lead.{tails, Passed};
+
+// What a lead byte says: the sequence's bytes, and the bounds of the second byte where it has its own.
+pub enum Lead {
+    One,
+    Two,
+    Three(u8, u8),
+    Four(u8, u8),
+    Bad,
+}
+
+// The lead byte by the ranges of Unicode's Table 3-7.
+fn lead_of(b: u8) -> Lead
+    ensures { λ r. ⌜ led b table ≡ tails r ⌝ }
+{
+    match b {
+        0..=0x7f => Lead::One,
+        0xc2..=0xdf => Lead::Two,
+        0xe0 => Lead::Three(0xa0, 0xbf),
+        0xe1..=0xec => Lead::Three(0x80, 0xbf),
+        0xed => Lead::Three(0x80, 0x9f),
+        0xee..=0xef => Lead::Three(0x80, 0xbf),
+        0xf0 => Lead::Four(0x90, 0xbf),
+        0xf1..=0xf3 => Lead::Four(0x80, 0xbf),
+        0xf4 => Lead::Four(0x80, 0x8f),
+        _ => Lead::Bad,
+    }
+}
+
+fn in_range(b: u8, lo: u8, hi: u8) -> bool
+    ensures { λ r. ⌜ r ≡ within b (lo ‥ hi) ⌝ }
+{
+    if b < lo {
+        return false;
+    }
+    b <= hi
+}
+
+// How many bytes a sequence of two, three or four has whose lead is at `i`, if the bytes after it are in their ranges; 0 if not.
+fn two(s: &[u8], i: usize) -> usize
+    requires { ⌜ i < length (now s) ⌝ }
+    ensures { λ r. ⌜ (r ≡ ledBy (tails Lead.Two) (drop (i + 1) (now (s .entry)))) × (i + r ≤ length (now (s .entry))) ⌝ }
+{
+    if s.len() - i < 2 {
+        return 0;
+    }
+    if in_range(s[i + 1], 0x80, 0xbf) {
+        return 2;
+    }
+    0
+}
+
+fn three(s: &[u8], i: usize, lo: u8, hi: u8) -> usize
+    requires { ⌜ i < length (now s) ⌝ }
+    ensures { λ r. ⌜ (r ≡ ledBy (tails (Lead.Three lo hi)) (drop (i + 1) (now (s .entry)))) × (i + r ≤ length (now (s .entry))) ⌝ }
+{
+    if s.len() - i < 3 {
+        return 0;
+    }
+    if in_range(s[i + 1], lo, hi) {
+        if in_range(s[i + 2], 0x80, 0xbf) {
+            return 3;
+        }
+    }
+    0
+}
+
+fn four(s: &[u8], i: usize, lo: u8, hi: u8) -> usize
+    requires { ⌜ i < length (now s) ⌝ }
+    ensures { λ r. ⌜ (r ≡ ledBy (tails (Lead.Four lo hi)) (drop (i + 1) (now (s .entry)))) × (i + r ≤ length (now (s .entry))) ⌝ }
+{
+    if s.len() - i < 4 {
+        return 0;
+    }
+    if in_range(s[i + 1], lo, hi) {
+        if in_range(s[i + 2], 0x80, 0xbf) {
+            if in_range(s[i + 3], 0x80, 0xbf) {
+                return 4;
+            }
+        }
+    }
+    0
+}
+
+// How many bytes the sequence at i has; 0 where it is ill-formed.
+fn seq(s: &[u8], i: usize) -> usize
+    requires { ⌜ i < length (now s) ⌝ }
+    ensures { λ r. ⌜ (r ≡ front (drop i (now (s .entry)))) × (i + r ≤ length (now (s .entry))) ⌝ }
+{
+    let l = lead_of(s[i]);
+    match l {
+        Lead::One => 1,
+        Lead::Two => two(s, i),
+        Lead::Three(lo, hi) => three(s, i, lo, hi),
+        Lead::Four(lo, hi) => four(s, i, lo, hi),
+        Lead::Bad => 0,
+    }
+}
+
+// Where the run of ASCII bytes at `at` ends, in turns of sixteen bytes: no more than fifteen of it are left.
+fn ascii_words(s: &[u8], at: usize) -> usize
+    requires { ⌜ at ≤ length (now s) ⌝ }
+    ensures { λ r. ⌜ Passed (now (s .entry)) at r ⌝ }
+{
+    let mut i = at;
+    while 16 <= s.len() - i {
+        if (words::le64(s, i) | words::le64(s, i + 8)) & 0x8080808080808080 != 0 {
+            break;
+        }
+        i += 16;
+    }
+    i
+}
+
+// Where the run of ASCII bytes at `at` ends.
+fn ascii(s: &[u8], at: usize) -> usize
+    requires { ⌜ at ≤ length (now s) ⌝ }
+    ensures { λ r. ⌜ Passed (now (s .entry)) at r ⌝ }
+{
+    let mut i = ascii_words(s, at);
+    while i < s.len() {
+        if 127 < s[i] {
+            break;
+        }
+        i += 1;
+    }
+    i
+}
+
+// Where the first ill-formed sequence begins, or the length where the text is well formed.
+pub fn first_bad(s: &[u8]) -> usize
+    ensures { λ r. ⌜ r ≡ firstBad (now (s .entry)) ⌝ }
+{
+    let mut i = 0;
+    while i < s.len() {
+        if s[i] < 128 {
+            i = ascii(s, i + 1);
+        } else {
+            let n = seq(s, i);
+            if n == 0 {
+                return i;
+            }
+            i += n;
+        }
+    }
+    i
+}
+
+// Is the text well-formed UTF-8?
+pub fn is_utf8(s: &[u8]) -> bool
+    ensures { λ r. ⌜ r ≡ wellFormed (now (s .entry)) ⌝ }
+{
+    first_bad(s) == s.len()
+}

@@ -1,0 +1,4 @@
+pub mod Lent
+pub mod Meaning
+pub mod Truth
+pub mod Laid

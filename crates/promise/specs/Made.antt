@@ -1,19 +1,13 @@
 -- The columns that come of one list of values and nulls: finished under any settings, over buffers of any content and size, and compacted, again and again, into
 -- buffers of their own at any maximum. What is promised of them is said by the definitions of the reading calls. Assumes nothing.
 use mathlib.Core.Path.{_≡_}
-use mathlib.Core.Bool.{Bool, true, false, not, _&&_}
 use mathlib.Core.List.{List}
-use Prim.Native.Nat.{ℕ, zero, suc, _+_, _<_}
-use lib.Dec.{eqb}
+use Prim.Native.Nat.{ℕ, _<_}
 use lib.ListN.{length, getD}
-use Rattle.words.specs.Pick.{pick}
 use Rattle.order.specs.Order.{cmp}
-use Rattle.bounds.specs.declared.Why.{Why}
 use Rattle.bounds.specs.declared.Why.the-variants.{Accepted}
-use Rattle.views.specs.View.{lengthOf, blockOf, isShort}
 use Rattle.column.specs.declared.Column.{Column}
-use Rattle.column.specs.Lent.{Lent, blockAt}
-use Rattle.column.specs.Meaning.{rowView}
+use Rattle.column.specs.Lent.{Lent}
 use Rattle.reading.specs.Reading.{whyValue, valueAt, bitOf, bitWhen}
 use Rattle.comparison.specs.Compare.{orderOf, compareRows}
 use Rattle.comparison.specs.declared.Compared.the-variants as compared
@@ -22,6 +16,7 @@ use Rattle.builder.specs.State.{Builder}
 use Rattle.builder.specs.Start.{whyStart, start}
 use Rattle.builder.specs.Finish.{whyFinish, columnOf, finished}
 use Rattle.compaction.specs.Compact.{whyCompact, compacted, compactColumn}
+use Rattle.compaction.specs.Bounded.{Bounded}
 use Rattle.promise.specs.Calls.{Item, null, bytesOf, isValue, Call, appended, Ran}
 
 -- nothing was refused on the way to it
@@ -40,19 +35,6 @@ pub record Faithful (xs : List Item) (l : Lent) (c : Column) : Type 0 where
 -- rows of two columns compare as what was appended, a null counting as empty
 pub record Ordered (xs : List Item) (l : Lent) (c : Column) (m : Lent) (d : Column) : Type 0 where
   pub order : (i j : ℕ) → i < length xs → j < length xs → compareRows l c i m d j ≡ compared.Is (orderOf (cmp (bytesOf (getD xs i null)) (bytesOf (getD xs j null))))
-
--- row r points into block k
-unfoldable pub points : Lent → Column → ℕ → ℕ → Bool
-points l c k r = not (isShort (lengthOf (rowView l c r))) && eqb (blockOf (rowView l c r)) k
-
--- how many of the first n rows do
-unfoldable pub pointing : Lent → Column → ℕ → ℕ → ℕ
-pointing l c k zero = 0
-pointing l c k (suc n) = pointing l c k n + pick (points l c k n) 1 0
-
--- a block longer than the maximum has exactly one row that points into it
-pub record Bounded (most : ℕ) (l : Lent) (c : Column) : Type 0 where
-  pub single : (k : ℕ) → k < c .blocks → most < blockAt l k .len → pointing l c k (c .rows) ≡ 1
 
 -- the third promise
 pub record Promise (xs : List Item) : Type 0 where

@@ -1,5 +1,5 @@
-use Rattle.copy.proofs.Laws.{copied-length}
-use Rattle.copy.proofs.Laws.{copied, copied-none, copied-all, copied-more}
+use Rattle.copy.specs.Over.{copied}
+use Rattle.copy.specs.OverLaws.{copied-none, copied-all, copied-more, copied-length}
 use Prim.Native.Nat.{_+_, _-_, _≤_}
 use lib.ListN.{length, drop, take}
 use mathlib.Core.Path.{_≡_, refl, sym, _∙_, ap}

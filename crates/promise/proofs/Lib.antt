@@ -1,0 +1,6 @@
+pub mod Fits
+pub mod Blocks
+pub mod Steps
+pub mod Appends
+pub mod Finishing
+pub mod Promised

@@ -4,3 +4,5 @@ pub mod Steps
 pub mod Appends
 pub mod Finishing
 pub mod Promised
+pub mod Computed
+pub mod Bench

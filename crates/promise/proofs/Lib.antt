@@ -6,3 +6,5 @@ pub mod Finishing
 pub mod Promised
 pub mod Computed
 pub mod Bench
+pub mod Merging
+pub mod Merged

@@ -1,3 +1,4 @@
 pub mod Calls
 pub mod Made
 pub mod Bench
+pub mod Merged

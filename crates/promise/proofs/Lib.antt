@@ -8,3 +8,5 @@ pub mod Computed
 pub mod Bench
 pub mod Merging
 pub mod Merged
+pub mod Wrong
+pub mod Defined

@@ -1,4 +1,5 @@
 // UTF-8 and views for callers in C and Rust, one call and many in a batch. A slice is a pointer and its count of bytes.
+ghost use Prim.Native.Nat.{_≤_};
 use bounds::Why;
 
 // Where the first ill-formed sequence begins, or the length where the text is well-formed UTF-8.
@@ -39,25 +40,27 @@ pub extern "C" fn text_make_view(out: &mut [u8; 16], v: &[u8], block: u32, offse
     }
 }
 
+fn least(a: usize, b: usize) -> usize
+    ensures { λ r. ⌜ (r ≤ a) × (r ≤ b) ⌝ }
+{
+    if a < b {
+        return a;
+    }
+    b
+}
+
 // Writes the views of short values into `dst`: the value of row k is the lens[k] bytes of `src` from 16 * k on. Answers how many rows were written:
 // it stops at a length above twelve, or where a buffer ends.
 #[no_mangle]
 pub extern "C" fn text_short_views(dst: &mut [u8], src: &[u8], lens: &[u8]) -> usize {
-    let mut k = 0;
-    while k < lens.len() {
+    let rows = least(lens.len(), least(src.len() / 16, dst.len() / 16));
+    for k in 0..rows {
         let n = lens[k] as usize;
         if views::SHORT_MOST < n {
             return k;
         }
-        if src.len() / 16 <= k {
-            return k;
-        }
-        if dst.len() / 16 <= k {
-            return k;
-        }
         let at = 16 * k;
         views::short_view(dst, at, &src[at..at + n]);
-        k += 1;
     }
-    k
+    rows
 }

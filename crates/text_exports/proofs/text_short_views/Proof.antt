@@ -8,10 +8,16 @@ use Rattle.text_exports.proofs.text_short_views.Statement.{statement}
 use Rattle.text_exports.proofs.text_short_views.Tie as tie
 
 abbrev Inv-loop : tie.InvT-loop
-Inv-loop dst₀ src lens k₀ dst k = (k ≤ length lens) × (length dst ≡ length dst₀)
+Inv-loop dst₀ src lens rows k₀ dst k = (k ≤ rows) × (length dst ≡ length dst₀)
 
 abbrev μ-loop : tie.MeasureT-loop
-μ-loop dst₀ src lens k₀ dst k = length lens - k
+μ-loop dst₀ src lens rows k₀ dst k = rows - k
+
+least-requires : tie.Need-least-requires Inv-loop μ-loop
+least-requires c κs = search needs
+
+least-requires-2 : tie.Need-least-requires-2 Inv-loop μ-loop
+least-requires-2 c κs = search needs
 
 loop-holds : tie.Need-loop-holds Inv-loop μ-loop
 loop-holds c = search needs
@@ -27,18 +33,6 @@ same-length c = search needs
 
 returns : tie.Need-returns Inv-loop μ-loop
 returns c = search needs
-
-same-length-2 : tie.Need-same-length-2 Inv-loop μ-loop
-same-length-2 c = search needs
-
-returns-2 : tie.Need-returns-2 Inv-loop μ-loop
-returns-2 c = search needs
-
-same-length-3 : tie.Need-same-length-3 Inv-loop μ-loop
-same-length-3 c = search needs
-
-returns-3 : tie.Need-returns-3 Inv-loop μ-loop
-returns-3 c = search needs
 
 mul-at : tie.Need-mul-at Inv-loop μ-loop
 mul-at c = search needs
@@ -67,11 +61,11 @@ loop-less c = search needs
 loop-again : tie.Need-loop-again Inv-loop μ-loop
 loop-again c = search needs
 
-same-length-4 : tie.Need-same-length-4 Inv-loop μ-loop
-same-length-4 c = search needs
+same-length-2 : tie.Need-same-length-2 Inv-loop μ-loop
+same-length-2 c = search needs
 
-returns-4 : tie.Need-returns-4 Inv-loop μ-loop
-returns-4 c = search needs
+returns-2 : tie.Need-returns-2 Inv-loop μ-loop
+returns-2 c = search needs
 
 pub text-short-views-spec : {M : Type 1} → statement M
 text-short-views-spec =
@@ -79,15 +73,13 @@ text-short-views-spec =
     (tie.spec
     Inv-loop
     μ-loop
+    least-requires
+    least-requires-2
     loop-holds
     shared-slice-read-n
     cast-n
     same-length
     returns
-    same-length-2
-    returns-2
-    same-length-3
-    returns-3
     mul-at
     add-short-view
     sub-short-view
@@ -97,5 +89,5 @@ text-short-views-spec =
     add-k
     loop-less
     loop-again
-    same-length-4
-    returns-4)
+    same-length-2
+    returns-2)

@@ -43,21 +43,7 @@ pub struct Generator {
 
 /// A script of about so many calls.
 pub fn script(seed: u64, whom: For, calls: usize) -> Vec<Call> {
-    let mut random = Random::new(seed);
-    let large = random.once_in(60);
-    let mut g = Generator {
-        random,
-        whom,
-        model: ByModel::default(),
-        script: vec![],
-        builders: vec![None; BUILDERS as usize],
-        kinds: vec![Kind::Binary; BUILDERS as usize],
-        columns: vec![None; COLUMNS as usize],
-        column_kinds: vec![Kind::Binary; COLUMNS as usize],
-        pool: vec![],
-        large,
-    };
-    g.pool = (0..12).map(|_| g.fresh_value()).collect();
+    let mut g = Generator::new(seed, whom);
     for b in 0..BUILDERS as usize {
         g.start(b);
     }
@@ -67,7 +53,50 @@ pub fn script(seed: u64, whom: For, calls: usize) -> Vec<Call> {
     g.script
 }
 
+/// What a column of so many rows holds, made by value, null, block and view calls under random settings.
+pub fn values_of(seed: u64, rows: usize) -> (Held, Kind) {
+    let mut g = Generator::new(seed, For::Both);
+    g.large = false;
+    g.start(0);
+    while g.builders[0].as_ref().map_or(0, |h| h.views.len()) < rows {
+        match g.random.below(8) {
+            0 | 1 => g.emit(Call::Null(0)),
+            2 if g.random.once_in(3) => {
+                let mut bytes = g.value();
+                bytes.extend(g.value());
+                g.emit(Call::Block(0, bytes))
+            }
+            3 => g.view(0),
+            _ => {
+                let value = g.value();
+                g.emit(Call::Value(0, value))
+            }
+        }
+    }
+    g.emit(Call::Finish(0, 0));
+    (g.columns[0].clone().unwrap(), g.kinds[0])
+}
+
 impl Generator {
+    fn new(seed: u64, whom: For) -> Self {
+        let mut random = Random::new(seed);
+        let large = random.once_in(60);
+        let mut g = Generator {
+            random,
+            whom,
+            model: ByModel::default(),
+            script: vec![],
+            builders: vec![None; BUILDERS as usize],
+            kinds: vec![Kind::Binary; BUILDERS as usize],
+            columns: vec![None; COLUMNS as usize],
+            column_kinds: vec![Kind::Binary; COLUMNS as usize],
+            pool: vec![],
+            large,
+        };
+        g.pool = (0..12).map(|_| g.fresh_value()).collect();
+        g
+    }
+
     fn model_alone(&self) -> bool {
         self.whom == For::Model
     }
@@ -573,11 +602,18 @@ fn put_word(bytes: &mut [u8], at: usize, word: u64) {
     bytes[at..at + 4].copy_from_slice(&(word as u32).to_le_bytes());
 }
 
-/// One thing made wrong, or only different.
+/// One thing made wrong, or only different; for original and model only in views and data.
 pub fn damage(random: &mut Random, raw: &mut Raw, whom: For) {
-    let rows = raw.column.rows;
-    let row = (raw.column.first + random.below(rows + 1)) as usize;
-    let at = 16 * row;
+    let way = random.below(if whom == For::Model { 18 } else { 7 });
+    damage_by(random, raw, way);
+}
+
+/// 0 to 6: bytes of a view or of the data. 7 to 11: a view's block or offset, the block table, the data's end. 12 to 16:
+/// lengths of buffers and the column's numbers. 17: one more block, at the data's end or past it.
+pub fn damage_by(random: &mut Random, raw: &mut Raw, way: u64) {
+    let (first, rows) = (raw.column.first, raw.column.rows);
+    let row = first.saturating_add(random.below(rows.min(1000) + 1));
+    let at = 16 * row.min(1 << 20) as usize;
     if at + 16 > raw.views.len() {
         return;
     }
@@ -586,7 +622,7 @@ pub fn damage(random: &mut Random, raw: &mut Raw, whom: For) {
     let block = raw.table.len() as u64;
     let far = *random.pick(&[0, 1, 12, 13, 14, 255, 256, 0x7fff_ffff, 0x8000_0000, 0xffff_ffff]);
     let byte = random.word() as u8;
-    match random.below(if whom == For::Model { 17 } else { 7 }) {
+    match way {
         0 | 1 => raw.views[at + random.below(16) as usize] ^= 1 << (byte % 8),
         2 => raw.views[at + 4 + random.below(12) as usize] = byte,
         3 => put_word(&mut raw.views, at, far),
@@ -603,13 +639,13 @@ pub fn damage(random: &mut Random, raw: &mut Raw, whom: For) {
         9 => {
             let place = random.below(block + 1) as usize;
             if let Some(b) = raw.table.get_mut(place) {
-                b.0 = *random.pick(&[b.0 + 1, raw.data.len() as u64, u64::MAX, 1 << 32]);
+                b.0 = *random.pick(&[b.0.wrapping_add(1), raw.data.len() as u64, u64::MAX, 1 << 32]);
             }
         }
         10 => {
             let place = random.below(block + 1) as usize;
             if let Some(b) = raw.table.get_mut(place) {
-                b.1 = *random.pick(&[b.1 + 1, b.1.saturating_sub(1), u64::MAX, 1 << 32, 0]);
+                b.1 = *random.pick(&[b.1.wrapping_add(1), b.1.saturating_sub(1), u64::MAX, 1 << 32, 0]);
             }
         }
         11 => {
@@ -623,7 +659,16 @@ pub fn damage(random: &mut Random, raw: &mut Raw, whom: For) {
             raw.map.pop();
         }
         14 => raw.column.blocks = *random.pick(&[0, block, block + 1, u64::MAX]),
-        15 => raw.column.first = *random.pick(&[0, raw.column.first + 1, u64::MAX, 32_767]),
-        _ => raw.column.rows = *random.pick(&[0, rows + 1, u64::MAX, 32_768, rows.saturating_sub(1)]),
+        15 => raw.column.first = *random.pick(&[0, first.wrapping_add(1), u64::MAX, 32_767]),
+        17 => {
+            let past = *random.pick(&[(0, 0), (0, 1), (1, 0), (u64::MAX - raw.data.len() as u64, 1)]);
+            raw.table.truncate(raw.column.blocks.min(block) as usize);
+            raw.table.push((raw.data.len() as u64 + past.0, past.1));
+            raw.column.blocks = raw.table.len() as u64;
+        }
+        _ => {
+            let (more, less) = (rows.wrapping_add(1), rows.saturating_sub(1));
+            raw.column.rows = *random.pick(&[0, more, less, u64::MAX, 32_768])
+        }
     }
 }

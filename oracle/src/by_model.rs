@@ -14,6 +14,8 @@ pub struct Kept {
 /// Builders and columns of a script.
 #[derive(Default)]
 pub struct ByModel {
+    /// Looks after each refusal whether the builder's buffers are as they were.
+    pub watch: bool,
     builders: [Option<(State, Rooms)>; REGISTERS],
     columns: [Option<Kept>; REGISTERS],
 }
@@ -67,14 +69,19 @@ fn held(rooms: &Rooms, c: &Column) -> Option<Held> {
     };
     Some(Held {
         views: (0..c.rows).map(view).collect(),
-        valid: (0..c.rows).map(|row| model::null_bit(&lent, c, row).unwrap()).collect(),
+        valid: (0..c.rows)
+            .map(|row| model::null_bit(&lent, c, row).unwrap())
+            .collect(),
         blocks: rooms.table[..c.blocks as usize].iter().map(block).collect(),
     })
 }
 
 /// The buffers as far as a finished column needs them.
 fn cut(rooms: &Rooms, c: &Column) -> Rooms {
-    let used = rooms.table[..c.blocks as usize].iter().map(|b| b.0 + b.1).max();
+    let used = rooms.table[..c.blocks as usize]
+        .iter()
+        .map(|b| b.0 + b.1)
+        .max();
     Rooms {
         views: rooms.views[..c.rows as usize * 16].to_vec(),
         data: rooms.data[..used.unwrap_or(0) as usize].to_vec(),
@@ -94,7 +101,11 @@ impl ByModel {
         let Some((state, rooms)) = &mut self.builders[b] else {
             return (Answer::Beyond, None);
         };
+        let before = self.watch.then(|| rooms.clone());
         let done = call(state, rooms);
+        if done.is_err() && before.is_some_and(|before| before != *rooms) {
+            panic!("a refused call changed a lent buffer");
+        }
         let said = answer(done, |(s, said)| {
             *state = s;
             said
@@ -129,7 +140,9 @@ impl ByModel {
         }
         Some(Held {
             views: (0..column.rows).map(view).collect(),
-            valid: (0..column.rows).map(|r| model::is_valid(&rooms.map, r)).collect(),
+            valid: (0..column.rows)
+                .map(|r| model::is_valid(&rooms.map, r))
+                .collect(),
             blocks: table
                 .iter()
                 .map(|b| {
@@ -158,7 +171,9 @@ impl ByModel {
         ask: impl FnOnce(&Kept) -> Result<Part, Refusal>,
     ) -> (Answer, Option<Held>) {
         self.ask(c, |k| {
-            answer(ask(k), |p| Answer::Bytes(p.of(&k.rooms.views, &k.rooms.data).to_vec()))
+            answer(ask(k), |p| {
+                Answer::Bytes(p.of(&k.rooms.views, &k.rooms.data).to_vec())
+            })
         })
     }
 
@@ -321,20 +336,32 @@ impl Engine for ByModel {
                 self.ask_part(*c, |k| model::suffix(&k.rooms.lent(), &k.column, *r, *n))
             }
             Call::Length(c, r) => self.ask(*c, |k| {
-                answer(model::length(&k.rooms.lent(), &k.column, *r), Answer::Number)
+                answer(
+                    model::length(&k.rooms.lent(), &k.column, *r),
+                    Answer::Number,
+                )
             }),
             Call::Bit(c, r) => self.ask(*c, |k| {
                 let bit = model::null_bit(&k.rooms.lent(), &k.column, *r);
                 answer(bit, |b| Answer::Number(b as u64))
             }),
             Call::Run(c, s, n) => self.ask(*c, |k| {
-                answer(model::null_run(&k.rooms.lent(), &k.column, *s, *n), Answer::Number)
+                answer(
+                    model::null_run(&k.rooms.lent(), &k.column, *s, *n),
+                    Answer::Number,
+                )
             }),
             Call::Total(c) => self.ask(*c, |k| {
-                answer(model::total_bytes_len(&k.rooms.lent(), &k.column), Answer::Number)
+                answer(
+                    model::total_bytes_len(&k.rooms.lent(), &k.column),
+                    Answer::Number,
+                )
             }),
             Call::Used(c) => self.ask(*c, |k| {
-                answer(model::total_buffer_bytes_used(&k.rooms.lent(), &k.column), Answer::Number)
+                answer(
+                    model::total_buffer_bytes_used(&k.rooms.lent(), &k.column),
+                    Answer::Number,
+                )
             }),
             Call::Walk(c) => self.walk(*c),
             Call::Compare(c, i, d, j) => self.ask_two(*c, *d, |l, r| {

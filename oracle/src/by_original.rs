@@ -7,7 +7,9 @@ use arrow_array::builder::{GenericByteViewBuilder, make_view};
 use arrow_array::types::{
     BinaryType, BinaryViewType, ByteArrayType, ByteViewType, StringViewType, Utf8Type,
 };
-use arrow_array::{Array, BinaryViewArray, GenericByteArray, GenericByteViewArray, StringViewArray};
+use arrow_array::{
+    Array, BinaryViewArray, GenericByteArray, GenericByteViewArray, StringViewArray,
+};
 use arrow_buffer::{BooleanBuffer, Buffer, NullBuffer, OffsetBuffer, ScalarBuffer};
 use model::{Growth, Kind, Merge};
 use std::cell::Cell;
@@ -74,7 +76,7 @@ pub fn quiet() {
 }
 
 /// Runs it and answers None if it panics.
-fn tried<T>(f: impl FnOnce() -> T) -> Option<T> {
+pub fn tried<T>(f: impl FnOnce() -> T) -> Option<T> {
     EXPECTED.set(true);
     let done = catch_unwind(AssertUnwindSafe(f)).ok();
     EXPECTED.set(false);
@@ -90,7 +92,11 @@ fn held<T: ByteViewType + ?Sized>(array: &GenericByteViewArray<T>) -> Held {
     Held {
         views: array.views().iter().map(|v| v.to_le_bytes()).collect(),
         valid: (0..array.len()).map(|i| array.is_valid(i)).collect(),
-        blocks: array.data_buffers().iter().map(|b| Some(b.to_vec())).collect(),
+        blocks: array
+            .data_buffers()
+            .iter()
+            .map(|b| Some(b.to_vec()))
+            .collect(),
     }
 }
 
@@ -110,7 +116,9 @@ fn started<T: ByteViewType + ?Sized>(
     match merge {
         Merge::Off => b,
         Merge::On => b.with_deduplicate_strings(),
-        Merge::UpTo(max) => b.with_deduplicate_strings().with_max_deduplication_len(max as u32),
+        Merge::UpTo(max) => b
+            .with_deduplicate_strings()
+            .with_max_deduplication_len(max as u32),
     }
 }
 
@@ -137,7 +145,11 @@ fn null_bits(map: &[u8], first: usize, rows: usize) -> Option<NullBuffer> {
     if map.len() * 8 < first + rows {
         return None;
     }
-    Some(NullBuffer::new(BooleanBuffer::new(Buffer::from(map), first, rows)))
+    Some(NullBuffer::new(BooleanBuffer::new(
+        Buffer::from(map),
+        first,
+        rows,
+    )))
 }
 
 /// What a view says, read by the layout in the crate's documentation: None if it isn't reachable, else whether it is
@@ -157,7 +169,10 @@ fn judged(view: u128, blocks: &[Buffer]) -> Option<(Vec<u8>, bool)> {
 /// A column spelled out, if its numbers fit and all its views are reachable.
 fn made(raw: &Raw) -> Option<Slot> {
     let c = &raw.column;
-    let (first, rows) = (usize::try_from(c.first).ok()?, usize::try_from(c.rows).ok()?);
+    let (first, rows) = (
+        usize::try_from(c.first).ok()?,
+        usize::try_from(c.rows).ok()?,
+    );
     let end = first.checked_add(rows)?;
     let views: Vec<u128> = raw
         .views
@@ -360,10 +375,12 @@ impl ByOriginal {
             },
         };
         let array = match kind {
-            Kind::Binary => from_offsets::<BinaryType, _>(offsets.clone(), bytes, nulls)
-                .map(Array2::Binary),
-            Kind::String => from_offsets::<Utf8Type, _>(offsets.clone(), bytes, nulls)
-                .map(Array2::String),
+            Kind::Binary => {
+                from_offsets::<BinaryType, _>(offsets.clone(), bytes, nulls).map(Array2::Binary)
+            }
+            Kind::String => {
+                from_offsets::<Utf8Type, _>(offsets.clone(), bytes, nulls).map(Array2::String)
+            }
         };
         match array {
             Some(array) => self.keep(*d, array),
@@ -460,12 +477,14 @@ impl Engine for ByOriginal {
                 };
                 or_past(value, Answer::Bytes)
             }),
-            Call::Prefix(c, r, n) => self.ask(*c, |a| {
-                each!(a, Array2, x => at(x.prefix_bytes_iter(*n as usize), *r))
-            }),
-            Call::Suffix(c, r, n) => self.ask(*c, |a| {
-                each!(a, Array2, x => at(x.suffix_bytes_iter(*n as usize), *r))
-            }),
+            Call::Prefix(c, r, n) => self.ask(
+                *c,
+                |a| each!(a, Array2, x => at(x.prefix_bytes_iter(*n as usize), *r)),
+            ),
+            Call::Suffix(c, r, n) => self.ask(
+                *c,
+                |a| each!(a, Array2, x => at(x.suffix_bytes_iter(*n as usize), *r)),
+            ),
             Call::Length(c, r) => self.ask(*c, |a| {
                 let length = each!(a, Array2, x => x.lengths().nth(*r as usize));
                 or_past(length, |n| Answer::Number(n as u64))
@@ -505,13 +524,18 @@ impl Engine for ByOriginal {
                         StringViewArray::try_new(views, blocks, nulls).is_ok()
                     }
                 };
-                if done { Answer::Done } else { Answer::refused(11) }
+                if done {
+                    Answer::Done
+                } else {
+                    Answer::refused(11)
+                }
             }),
             Call::List(c) => self.ask(*c, |a| Answer::Text(format!("{:?}", binary(a)))),
             Call::Growth(_) => (Answer::Beyond, None),
-            Call::MakeView(v, b, o) => {
-                (Answer::Bytes(make_view(v, *b, *o).to_le_bytes().to_vec()), None)
-            }
+            Call::MakeView(v, b, o) => (
+                Answer::Bytes(make_view(v, *b, *o).to_le_bytes().to_vec()),
+                None,
+            ),
         }
     }
 }

@@ -55,7 +55,10 @@ pub fn compare(script: &[Call], tally: &mut Tally) -> Result<(), String> {
         };
         if !agree || !states {
             let lines: Vec<String> = script[..=k].iter().map(line_of).collect();
-            let mut text = format!("{}\n# original: {theirs}\n# model: {ours}\n", lines.join("\n"));
+            let mut text = format!(
+                "{}\n# original: {theirs}\n# model: {ours}\n",
+                lines.join("\n")
+            );
             if !states {
                 text += &format!("# original holds\n{}", their_state.unwrap());
                 text += &format!("# model holds\n{}", our_state.unwrap());

@@ -113,14 +113,28 @@ impl Generator {
     /// Well-formed text of so many bytes, in sequences of one to four.
     fn text(&mut self, n: u64) -> Vec<u8> {
         const CHARS: [char; 12] = [
-            'A', 'B', '-', '0', '\0', '\u{7f}', '\u{80}', '\u{7ff}', '\u{800}', '\u{d7ff}', '\u{ffff}',
+            'A',
+            'B',
+            '-',
+            '0',
+            '\0',
+            '\u{7f}',
+            '\u{80}',
+            '\u{7ff}',
+            '\u{800}',
+            '\u{d7ff}',
+            '\u{ffff}',
             '\u{10ffff}',
         ];
         let mut bytes = vec![];
         while (bytes.len() as u64) < n {
             let c = *self.random.pick(&CHARS);
             let more = c.len_utf8() as u64;
-            let c = if bytes.len() as u64 + more <= n { c } else { 'Z' };
+            let c = if bytes.len() as u64 + more <= n {
+                c
+            } else {
+                'Z'
+            };
             let mut buffer = [0; 4];
             bytes.extend_from_slice(c.encode_utf8(&mut buffer).as_bytes());
         }
@@ -131,7 +145,9 @@ impl Generator {
         let n = self.length();
         match self.random.below(4) {
             // Few different bytes, so that values share their beginnings.
-            0 => (0..n).map(|_| *self.random.pick(&[0, 0, 65, 255])).collect(),
+            0 => (0..n)
+                .map(|_| *self.random.pick(&[0, 0, 65, 255]))
+                .collect(),
             1 => {
                 let byte = *self.random.pick(&[0, 65, 66, 255]);
                 let mut bytes = vec![byte; n as usize];
@@ -332,9 +348,14 @@ impl Generator {
 
     /// A column that there is, if there is one.
     fn some_column(&mut self) -> usize {
-        let there: Vec<usize> =
-            (0..self.columns.len()).filter(|c| self.columns[*c].is_some()).collect();
-        if there.is_empty() { 0 } else { *self.random.pick(&there) }
+        let there: Vec<usize> = (0..self.columns.len())
+            .filter(|c| self.columns[*c].is_some())
+            .collect();
+        if there.is_empty() {
+            0
+        } else {
+            *self.random.pick(&there)
+        }
     }
 
     fn rows_of(&self, c: usize) -> usize {
@@ -408,13 +429,24 @@ impl Generator {
     /// A view of some block, mostly of one that there is, ending around the block's end.
     fn view(&mut self, b: usize) {
         let lengths: Vec<u64> = self.builders[b].as_ref().map_or(vec![], |h| {
-            h.blocks.iter().map(|b| b.as_ref().map_or(0, |b| b.len() as u64)).collect()
+            h.blocks
+                .iter()
+                .map(|b| b.as_ref().map_or(0, |b| b.len() as u64))
+                .collect()
         });
         let block = self.row(lengths.len());
         let len = *lengths.get(block as usize).unwrap_or(&20);
-        let offset = if self.random.once_in(2) { 0 } else { self.near(len) };
+        let offset = if self.random.once_in(2) {
+            0
+        } else {
+            self.near(len)
+        };
         let most = len.saturating_sub(offset);
-        let n = if self.random.once_in(2) { self.near(most) } else { self.length().min(most) };
+        let n = if self.random.once_in(2) {
+            self.near(most)
+        } else {
+            self.length().min(most)
+        };
         self.emit(Call::View(b, block, offset, n));
     }
 
@@ -425,11 +457,19 @@ impl Generator {
         match self.random.below(24) {
             0..=2 => self.emit(Call::Read(c, row)),
             3 | 4 => {
-                let n = if self.random.once_in(2) { self.random.below(15) } else { self.length() };
+                let n = if self.random.once_in(2) {
+                    self.random.below(15)
+                } else {
+                    self.length()
+                };
                 self.emit(Call::Prefix(c, row, n))
             }
             5 | 6 => {
-                let n = if self.random.once_in(2) { self.random.below(15) } else { self.length() };
+                let n = if self.random.once_in(2) {
+                    self.random.below(15)
+                } else {
+                    self.length()
+                };
                 self.emit(Call::Suffix(c, row, n))
             }
             7 => self.emit(Call::Length(c, row)),
@@ -478,7 +518,10 @@ impl Generator {
             0 => 0,
             n => {
                 let start = self.random.below(n) as usize;
-                lengths[start..].iter().take(1 + self.random.below(3) as usize).sum()
+                lengths[start..]
+                    .iter()
+                    .take(1 + self.random.below(3) as usize)
+                    .sum()
             }
         };
         match self.random.below(10) {
@@ -496,7 +539,10 @@ impl Generator {
 
     fn compact(&mut self, c: usize, d: usize) {
         let lengths: Vec<u64> = self.columns[c].as_ref().map_or(vec![], |h| {
-            let all = h.views.iter().map(|v| u32::from_le_bytes(v[..4].try_into().unwrap()) as u64);
+            let all = h
+                .views
+                .iter()
+                .map(|v| u32::from_le_bytes(v[..4].try_into().unwrap()) as u64);
             all.filter(|n| *n > 12).collect()
         });
         let rows = self.rows_of(c) as u64;
@@ -508,7 +554,11 @@ impl Generator {
 
     fn offsets(&mut self, d: usize) {
         let rows = self.random.below(20);
-        let mut bytes = if self.random.once_in(3) { self.value() } else { vec![] };
+        let mut bytes = if self.random.once_in(3) {
+            self.value()
+        } else {
+            vec![]
+        };
         let mut offsets = vec![bytes.len() as i32];
         for _ in 0..rows {
             if !self.random.once_in(4) {
@@ -533,7 +583,11 @@ impl Generator {
                 _ => map = map.map(|m| m[..m.len().saturating_sub(1)].to_vec()),
             }
         }
-        let sizes = self.output(offsets.len().saturating_sub(1) as u64, 1, bytes.len() as u64);
+        let sizes = self.output(
+            offsets.len().saturating_sub(1) as u64,
+            1,
+            bytes.len() as u64,
+        );
         let kind = self.kind();
         self.emit(Call::Offsets(d, kind, offsets, bytes, map, sizes));
     }
@@ -620,7 +674,18 @@ pub fn damage_by(random: &mut Random, raw: &mut Raw, way: u64) {
     let view: [u8; 16] = raw.views[at..at + 16].try_into().unwrap();
     let word = |k: usize| u32::from_le_bytes(view[k..k + 4].try_into().unwrap()) as u64;
     let block = raw.table.len() as u64;
-    let far = *random.pick(&[0, 1, 12, 13, 14, 255, 256, 0x7fff_ffff, 0x8000_0000, 0xffff_ffff]);
+    let far = *random.pick(&[
+        0,
+        1,
+        12,
+        13,
+        14,
+        255,
+        256,
+        0x7fff_ffff,
+        0x8000_0000,
+        0xffff_ffff,
+    ]);
     let byte = random.word() as u8;
     match way {
         0 | 1 => raw.views[at + random.below(16) as usize] ^= 1 << (byte % 8),
@@ -634,18 +699,33 @@ pub fn damage_by(random: &mut Random, raw: &mut Raw, way: u64) {
                 *b ^= 1 << (byte % 8);
             }
         }
-        7 => put_word(&mut raw.views, at + 8, *random.pick(&[block, block + 1, far])),
+        7 => put_word(
+            &mut raw.views,
+            at + 8,
+            *random.pick(&[block, block + 1, far]),
+        ),
         8 => put_word(&mut raw.views, at + 12, far),
         9 => {
             let place = random.below(block + 1) as usize;
             if let Some(b) = raw.table.get_mut(place) {
-                b.0 = *random.pick(&[b.0.wrapping_add(1), raw.data.len() as u64, u64::MAX, 1 << 32]);
+                b.0 = *random.pick(&[
+                    b.0.wrapping_add(1),
+                    raw.data.len() as u64,
+                    u64::MAX,
+                    1 << 32,
+                ]);
             }
         }
         10 => {
             let place = random.below(block + 1) as usize;
             if let Some(b) = raw.table.get_mut(place) {
-                b.1 = *random.pick(&[b.1.wrapping_add(1), b.1.saturating_sub(1), u64::MAX, 1 << 32, 0]);
+                b.1 = *random.pick(&[
+                    b.1.wrapping_add(1),
+                    b.1.saturating_sub(1),
+                    u64::MAX,
+                    1 << 32,
+                    0,
+                ]);
             }
         }
         11 => {
@@ -661,7 +741,12 @@ pub fn damage_by(random: &mut Random, raw: &mut Raw, way: u64) {
         14 => raw.column.blocks = *random.pick(&[0, block, block + 1, u64::MAX]),
         15 => raw.column.first = *random.pick(&[0, first.wrapping_add(1), u64::MAX, 32_767]),
         17 => {
-            let past = *random.pick(&[(0, 0), (0, 1), (1, 0), (u64::MAX - raw.data.len() as u64, 1)]);
+            let past = *random.pick(&[
+                (0, 0),
+                (0, 1),
+                (1, 0),
+                (u64::MAX - raw.data.len() as u64, 1),
+            ]);
             raw.table.truncate(raw.column.blocks.min(block) as usize);
             raw.table.push((raw.data.len() as u64 + past.0, past.1));
             raw.column.blocks = raw.table.len() as u64;

@@ -3,6 +3,7 @@
 pub mod answer;
 pub mod by_model;
 pub mod by_original;
+pub mod checks;
 pub mod compare;
 pub mod generate;
 pub mod random;

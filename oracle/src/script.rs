@@ -69,12 +69,17 @@ fn word<'a>(w: &mut Words<'a>) -> Result<&'a str, String> {
 
 fn number<T: std::str::FromStr>(w: &mut Words) -> Result<T, String> {
     let text = word(w)?;
-    text.parse().map_err(|_| format!("'{text}' isn't a number that fits here"))
+    text.parse()
+        .map_err(|_| format!("'{text}' isn't a number that fits here"))
 }
 
 fn register(w: &mut Words) -> Result<usize, String> {
     let k: usize = number(w)?;
-    if k < REGISTERS { Ok(k) } else { Err(format!("no builder or column {k}")) }
+    if k < REGISTERS {
+        Ok(k)
+    } else {
+        Err(format!("no builder or column {k}"))
+    }
 }
 
 fn unhex(text: &str) -> Result<Vec<u8>, String> {
@@ -103,7 +108,10 @@ fn kind(w: &mut Words) -> Result<Kind, String> {
 fn setting(text: &str) -> Result<(&str, Option<u64>), String> {
     match text.split_once(':') {
         None => Ok((text, None)),
-        Some((name, n)) => Ok((name, Some(n.parse().map_err(|_| format!("no number in '{text}'"))?))),
+        Some((name, n)) => Ok((
+            name,
+            Some(n.parse().map_err(|_| format!("no number in '{text}'"))?),
+        )),
     }
 }
 
@@ -139,7 +147,9 @@ fn list<T: std::str::FromStr>(w: &mut Words) -> Result<Vec<T>, String> {
     if text == "-" {
         return Ok(vec![]);
     }
-    let all = text.split(',').map(|t| t.parse().map_err(|_| format!("'{t}' isn't a number")));
+    let all = text
+        .split(',')
+        .map(|t| t.parse().map_err(|_| format!("'{t}' isn't a number")));
     all.collect()
 }
 
@@ -204,9 +214,14 @@ fn parse(w: &mut Words) -> Result<Call, String> {
         "finish" => Call::Finish(r(w)?, r(w)?),
         "copy" => Call::Copy(r(w)?, r(w)?),
         "compact" => Call::Compact(r(w)?, number(w)?, r(w)?, sizes(w)?),
-        "offsets" => {
-            Call::Offsets(r(w)?, kind(w)?, list(w)?, bytes(w)?, input_map(w)?, sizes(w)?)
-        }
+        "offsets" => Call::Offsets(
+            r(w)?,
+            kind(w)?,
+            list(w)?,
+            bytes(w)?,
+            input_map(w)?,
+            sizes(w)?,
+        ),
         "raw" => Call::Raw(r(w)?, raw(w)?),
         "slice" => Call::Slice(r(w)?, number(w)?, number(w)?, r(w)?),
         "read" => Call::Read(r(w)?, number(w)?),
@@ -269,7 +284,11 @@ fn sizes_text(s: &Sizes) -> String {
 
 fn list_text<T: ToString>(all: impl Iterator<Item = T>) -> String {
     let all: Vec<String> = all.map(|x| x.to_string()).collect();
-    if all.is_empty() { "-".to_string() } else { all.join(",") }
+    if all.is_empty() {
+        "-".to_string()
+    } else {
+        all.join(",")
+    }
 }
 
 fn raw_text(raw: &Raw) -> String {

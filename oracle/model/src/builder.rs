@@ -1,6 +1,8 @@
 //! Module 6: the builder. Its state goes in and comes back; rows, blocks and bytes lie in lent buffers.
 
-use crate::column::{Column, Lent, all_in_data, all_true, bit, block_room, blocks_of, fits, row_room};
+use crate::column::{
+    Column, Lent, all_in_data, all_true, bit, block_room, blocks_of, fits, row_room,
+};
 use crate::growth::{Growth, START, reached_size, stepped};
 use crate::nulls::put_bit;
 use crate::utf8::is_utf8;
@@ -195,7 +197,11 @@ pub fn start_merging(
 /// The earliest row that a value call stored with these bytes.
 fn earlier(s: &State, rooms: &Rooms, value: &[u8]) -> Option<u64> {
     let blocks = s.blocks_read(rooms);
-    let rows = rooms.merge.iter().take_while(|e| **e > 0).map(|e| *e as u64 - 1);
+    let rows = rooms
+        .merge
+        .iter()
+        .take_while(|e| **e > 0)
+        .map(|e| *e as u64 - 1);
     let mut equal = rows.filter(|r| {
         let part = reach(&rooms.lent(), &blocks, *r);
         *r < s.rows && part.is_some_and(|p| p.of(&rooms.views, &rooms.data) == value)
@@ -223,10 +229,17 @@ pub fn append_value_n(
     refuse(len > MAX_BYTES, 4)?;
     refuse(s.kind == Kind::String && !is_utf8(value), 10)?;
     refuse(sum_above(s.rows, n, s.row_room(rooms)), 5)?;
-    let hit = if s.merges(len) { earlier(s, rooms, value) } else { None };
+    let hit = if s.merges(len) {
+        earlier(s, rooms, value)
+    } else {
+        None
+    };
     let stores = len > MAX_SHORT && hit.is_none();
     let opens = stores && !s.takes(len);
-    refuse(opens && sum_above(s.all_blocks(), 1, block_room(&rooms.table)), 6)?;
+    refuse(
+        opens && sum_above(s.all_blocks(), 1, block_room(&rooms.table)),
+        6,
+    )?;
     refuse(stores && sum_above(s.used(), len, rooms.data_room()), 7)?;
 
     let mut s = *s;
@@ -278,11 +291,7 @@ pub fn append_null(s: &State, rooms: &mut Rooms) -> Result<State, Refusal> {
 }
 
 /// Block: 2, 4, 6, 7. Answers its number too.
-pub fn append_block(
-    s: &State,
-    rooms: &mut Rooms,
-    bytes: &[u8],
-) -> Result<(State, u64), Refusal> {
+pub fn append_block(s: &State, rooms: &mut Rooms, bytes: &[u8]) -> Result<(State, u64), Refusal> {
     s.fits(rooms)?;
     let len = bytes.len() as u64;
     refuse(len > MAX_BYTES, 4)?;
@@ -306,7 +315,10 @@ pub fn append_view(
     s.fits(rooms)?;
     refuse(block >= s.blocks, 8)?;
     let record = rooms.table[block as usize];
-    refuse(sum_above(offset, len, record.1) || !in_data(record, &rooms.data), 9)?;
+    refuse(
+        sum_above(offset, len, record.1) || !in_data(record, &rooms.data),
+        9,
+    )?;
     let at = (record.0 + offset) as usize;
     let value = rooms.data[at..at + len as usize].to_vec();
     refuse(s.kind == Kind::String && !is_utf8(&value), 10)?;
@@ -331,7 +343,10 @@ pub fn append_column(
     let blocks = blocks_of(lent, c);
     let bytes: u64 = blocks.iter().map(|b| b.1).sum();
     refuse(sum_above(s.rows, c.rows, s.row_room(rooms)), 5)?;
-    refuse(sum_above(s.all_blocks(), c.blocks, block_room(&rooms.table)), 6)?;
+    refuse(
+        sum_above(s.all_blocks(), c.blocks, block_room(&rooms.table)),
+        6,
+    )?;
     refuse(sum_above(s.used(), bytes, rooms.data_room()), 7)?;
 
     let mut s = *s;

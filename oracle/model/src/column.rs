@@ -155,7 +155,9 @@ pub fn slice(lent: &Lent, c: &Column, start: u64, count: u64) -> Result<Column, 
 pub fn total_bytes_len(lent: &Lent, c: &Column) -> Result<u64, Refusal> {
     fits(lent, c)?;
     let valid = (0..c.rows).filter(|row| bit(lent, c, *row));
-    Ok(valid.map(|row| length_of(&view_at(lent.views, c.first + row))).sum())
+    Ok(valid
+        .map(|row| length_of(&view_at(lent.views, c.first + row)))
+        .sum())
 }
 
 /// The sum of the lengths of all long rows, null ones too.

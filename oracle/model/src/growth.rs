@@ -17,7 +17,7 @@ pub const LAST: u64 = 2_097_152;
 /// Whether module 5 reaches the size.
 pub fn reached_size(growth: Growth) -> bool {
     match growth {
-        Growth::Fixed(size) => 1 <= size && size <= MAX_BYTES,
+        Growth::Fixed(size) => (1..=MAX_BYTES).contains(&size),
         Growth::Doubling(size) => (0..=8).any(|k| size == START << k),
     }
 }

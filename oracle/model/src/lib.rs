@@ -21,8 +21,8 @@ pub use builder::{
     append_view, finish, finish_copy, get_value, start, start_merging,
 };
 pub use column::{
-    Column, Lent, check, length, null_bit, null_run, prefix, slice, suffix, total_buffer_bytes_used,
-    total_bytes_len, value, walk,
+    Column, Lent, check, length, null_bit, null_run, prefix, slice, suffix,
+    total_buffer_bytes_used, total_bytes_len, value, walk,
 };
 pub use compaction::compact;
 pub use comparison::{Order, compare, same_column};
@@ -122,7 +122,11 @@ impl Part {
 
 /// Answers the refusal if `due`.
 fn refuse(due: bool, number: u32) -> Result<(), Refusal> {
-    if due { Err(Refusal::new(number)) } else { Ok(()) }
+    if due {
+        Err(Refusal::new(number))
+    } else {
+        Ok(())
+    }
 }
 
 /// a + b above the bound.

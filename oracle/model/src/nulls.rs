@@ -7,7 +7,9 @@ pub fn is_valid(map: &[u8], r: u64) -> bool {
 
 /// The nulls among `count` rows from `start` on.
 pub fn count_nulls(map: &[u8], start: u64, count: u64) -> u64 {
-    (start..start + count).filter(|r| !is_valid(map, *r)).count() as u64
+    (start..start + count)
+        .filter(|r| !is_valid(map, *r))
+        .count() as u64
 }
 
 /// Writes the bit of a row that is added: those below it stay, those above it in its byte become 0.

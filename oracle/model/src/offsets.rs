@@ -32,7 +32,10 @@ pub fn from_offsets(
     let valid = |row: u64| map.is_none_or(|m| is_valid(m, row));
     let text = |row: u64| !valid(row) || is_utf8(row_bytes(offsets, bytes, row));
     refuse(kind == Kind::String && !(0..rows).all(text), 10)?;
-    refuse(rows > row_room(&rooms.views, Some(rooms.map.len() as u64), None), 5)?;
+    refuse(
+        rows > row_room(&rooms.views, Some(rooms.map.len() as u64), None),
+        5,
+    )?;
     refuse(block_room(&rooms.table) < 1, 6)?;
     refuse(bytes.len() as u64 > rooms.data_room(), 7)?;
 
@@ -40,7 +43,11 @@ pub fn from_offsets(
     rooms.table[0] = (0, bytes.len() as u64);
     for row in 0..rows {
         let view = if valid(row) {
-            make_view(row_bytes(offsets, bytes, row), 0, offsets[row as usize] as u32)?
+            make_view(
+                row_bytes(offsets, bytes, row),
+                0,
+                offsets[row as usize] as u32,
+            )?
         } else {
             [0; 16]
         };

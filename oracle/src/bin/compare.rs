@@ -6,7 +6,10 @@ use oracle::generate::{For, script};
 use std::process::exit;
 
 fn main() {
-    let args: Vec<u64> = std::env::args().skip(1).filter_map(|a| a.parse().ok()).collect();
+    let args: Vec<u64> = std::env::args()
+        .skip(1)
+        .filter_map(|a| a.parse().ok())
+        .collect();
     let (Some(first), Some(count)) = (args.first(), args.get(1)) else {
         eprintln!("usage: compare FIRST COUNT [CALLS]");
         exit(2);
@@ -20,6 +23,8 @@ fn main() {
             exit(1);
         }
     }
-    println!("scripts {count}, calls {}, answers compared {} (refusals {}), states compared {}, unasked {}, beyond {}, differences 0",
-        tally.calls, tally.answers, tally.refusals, tally.states, tally.unasked, tally.beyond);
+    println!(
+        "scripts {count}, calls {}, answers compared {} (refusals {}), states compared {}, unasked {}, beyond {}, differences 0",
+        tally.calls, tally.answers, tally.refusals, tally.states, tally.unasked, tally.beyond
+    );
 }

@@ -89,7 +89,11 @@ fn part(p: Part) -> Expected {
         Buffer::Views => 1,
         Buffer::Data => 2,
     };
-    let part = if p.len == 0 { [0; 3] } else { [buffer, p.at, p.len] };
+    let part = if p.len == 0 {
+        [0; 3]
+    } else {
+        [buffer, p.at, p.len]
+    };
     Expected {
         part,
         ..Expected::default()
@@ -111,11 +115,23 @@ fn asked(call: u64, a: u64, b: u64, left: &Raw, right: &Raw) -> (Expected, Call)
     let or = |x: Result<Expected, Refusal>| x.unwrap_or_else(refused);
     match call {
         1 => (or(model::value(l, lc, a).map(part)), Call::Read(0, a)),
-        2 => (or(model::prefix(l, lc, a, b).map(part)), Call::Prefix(0, a, b)),
-        3 => (or(model::suffix(l, lc, a, b).map(part)), Call::Suffix(0, a, b)),
+        2 => (
+            or(model::prefix(l, lc, a, b).map(part)),
+            Call::Prefix(0, a, b),
+        ),
+        3 => (
+            or(model::suffix(l, lc, a, b).map(part)),
+            Call::Suffix(0, a, b),
+        ),
         4 => (or(model::length(l, lc, a).map(number)), Call::Length(0, a)),
-        5 => (or(model::null_bit(l, lc, a).map(|x| number(x as u64))), Call::Bit(0, a)),
-        6 => (or(model::null_run(l, lc, a, b).map(number)), Call::Run(0, a, b)),
+        5 => (
+            or(model::null_bit(l, lc, a).map(|x| number(x as u64))),
+            Call::Bit(0, a),
+        ),
+        6 => (
+            or(model::null_run(l, lc, a, b).map(number)),
+            Call::Run(0, a, b),
+        ),
         7 => {
             let slice = model::slice(l, lc, a, b).map(|c| Expected {
                 number: c.first,
@@ -124,8 +140,14 @@ fn asked(call: u64, a: u64, b: u64, left: &Raw, right: &Raw) -> (Expected, Call)
             });
             (or(slice), Call::Slice(0, a, b, 2))
         }
-        8 => (or(model::total_bytes_len(l, lc).map(number)), Call::Total(0)),
-        9 => (or(model::total_buffer_bytes_used(l, lc).map(number)), Call::Used(0)),
+        8 => (
+            or(model::total_bytes_len(l, lc).map(number)),
+            Call::Total(0),
+        ),
+        9 => (
+            or(model::total_buffer_bytes_used(l, lc).map(number)),
+            Call::Used(0),
+        ),
         10 => {
             let answer = model::compare(l, lc, a, r, rc, b).map(|o| number(order(o)));
             (or(answer), Call::Compare(0, a, 1, b))
@@ -138,7 +160,13 @@ fn asked(call: u64, a: u64, b: u64, left: &Raw, right: &Raw) -> (Expected, Call)
         _ => {
             let (value, place) = model::walk(l, lc, a);
             let answer = or(value.map(part));
-            (Expected { number: place, ..answer }, Call::Read(0, a))
+            (
+                Expected {
+                    number: place,
+                    ..answer
+                },
+                Call::Read(0, a),
+            )
         }
     }
 }
@@ -151,7 +179,11 @@ fn agrees(theirs: &Answer, call: u64, e: &Expected, left: &Raw) -> bool {
         Answer::Refused(n, ..) => e.refusal == *n as u64,
         _ if e.refusal > 0 => false,
         Answer::Bytes(b) => {
-            let from = if e.part[0] == 1 { &left.views } else { &left.data };
+            let from = if e.part[0] == 1 {
+                &left.views
+            } else {
+                &left.data
+            };
             *b == from[e.part[1] as usize..(e.part[1] + e.part[2]) as usize]
         }
         Answer::Number(n) => e.number == *n,
@@ -182,17 +214,29 @@ fn bad_row(random: &mut Random, raw: &Raw) -> u64 {
 }
 
 fn question(random: &mut Random, k: usize, left: &Raw, right: &Raw) -> (u64, u64, u64) {
-    let call = if k < 13 { k as u64 + 1 } else { *random.pick(&[1, 2, 3, 5, 6, 7, 10, 10, 13]) };
+    let call = if k < 13 {
+        k as u64 + 1
+    } else {
+        *random.pick(&[1, 2, 3, 5, 6, 7, 10, 10, 13])
+    };
     let rows = left.column.rows;
     let row = bad_row(random, left);
     match call {
         2 | 3 => {
-            let n = if random.once_in(3) { random.below(40) } else { random.below(15) };
+            let n = if random.once_in(3) {
+                random.below(40)
+            } else {
+                random.below(15)
+            };
             (call, row, n)
         }
         6 | 7 => {
             let rest = rows.saturating_sub(row);
-            let count = if random.once_in(3) { rest } else { near(random, rest) };
+            let count = if random.once_in(3) {
+                rest
+            } else {
+                near(random, rest)
+            };
             (call, row, count)
         }
         8 | 9 | 11 | 12 => (call, 0, 0),
@@ -234,7 +278,11 @@ fn column(random: &mut Random, damaged: bool) -> Raw {
 
 fn group(random: &mut Random, out: &mut Vec<u8>, valid: bool) {
     let left = column(random, !valid);
-    let mut right = if random.once_in(3) { left.clone() } else { column(random, false) };
+    let mut right = if random.once_in(3) {
+        left.clone()
+    } else {
+        column(random, false)
+    };
     if !valid && random.once_in(2) {
         let way = random.below(18);
         damage_by(random, &mut right, way);
@@ -323,7 +371,15 @@ fn utf8(seed: u64) -> Vec<u8> {
         let mut bytes = vec![];
         let n = random.below(60);
         while (bytes.len() as u64) < n {
-            let c = *random.pick(&['a', '\u{7f}', '\u{80}', '\u{7ff}', '\u{800}', '\u{ffff}', '\u{10000}']);
+            let c = *random.pick(&[
+                'a',
+                '\u{7f}',
+                '\u{80}',
+                '\u{7ff}',
+                '\u{800}',
+                '\u{ffff}',
+                '\u{10000}',
+            ]);
             bytes.extend(c.to_string().bytes());
         }
         bytes.truncate(64);
@@ -340,14 +396,22 @@ fn null_runs(seed: u64) -> Vec<u8> {
     let mut random = Random::new(seed);
     let mut out = vec![];
     for k in 0..600 {
-        let n = if k % 3 == 0 { random.below(64) + 1 } else { random.below(20) };
+        let n = if k % 3 == 0 {
+            random.below(64) + 1
+        } else {
+            random.below(20)
+        };
         let map: Vec<u8> = match random.below(4) {
             0 => vec![0; n as usize],
             1 => vec![0xff; n as usize],
             _ => random.bytes(n),
         };
         let start = random.below(8 * n + 1);
-        let count = if random.once_in(3) { 8 * n - start } else { random.below(8 * n - start + 1) };
+        let count = if random.once_in(3) {
+            8 * n - start
+        } else {
+            random.below(8 * n - start + 1)
+        };
         let null = |r: &u64| map[(r / 8) as usize] & (1 << (r % 8)) == 0;
         let nulls = (start..start + count).filter(null).count() as u64;
         put(&mut out, &[n, start, count, nulls]);
@@ -402,10 +466,35 @@ fn growth() -> Vec<u8> {
     for k in 0..=9 {
         record(Growth::Doubling(8192 << k));
     }
-    for size in [0, 1, 4096, 8191, 8193, 12_288, 16_383, 2_097_151, 2_097_153, 1 << 32, u64::MAX] {
+    for size in [
+        0,
+        1,
+        4096,
+        8191,
+        8193,
+        12_288,
+        16_383,
+        2_097_151,
+        2_097_153,
+        1 << 32,
+        u64::MAX,
+    ] {
         record(Growth::Doubling(size));
     }
-    for size in [0, 1, 12, 13, 20, 26, 8192, 16_777_215, 16_777_216, 16_777_217, 1 << 32, u64::MAX] {
+    for size in [
+        0,
+        1,
+        12,
+        13,
+        20,
+        26,
+        8192,
+        16_777_215,
+        16_777_216,
+        16_777_217,
+        1 << 32,
+        u64::MAX,
+    ] {
         record(Growth::Fixed(size));
     }
     out
@@ -415,8 +504,14 @@ fn orders(seed: u64) -> Vec<u8> {
     let mut random = Random::new(seed);
     let mut out = vec![];
     for _ in 0..700 {
-        let n = if random.once_in(3) { random.below(65) } else { *random.pick(&[0, 1, 3, 4, 7, 8, 9, 12, 13, 16, 31]) };
-        let a: Vec<u8> = (0..n).map(|_| *random.pick(&[0, 0, 1, 127, 128, 255])).collect();
+        let n = if random.once_in(3) {
+            random.below(65)
+        } else {
+            *random.pick(&[0, 1, 3, 4, 7, 8, 9, 12, 13, 16, 31])
+        };
+        let a: Vec<u8> = (0..n)
+            .map(|_| *random.pick(&[0, 0, 1, 127, 128, 255]))
+            .collect();
         let mut b = a.clone();
         for _ in 0..random.below(3) {
             match random.below(3) {
@@ -432,7 +527,14 @@ fn orders(seed: u64) -> Vec<u8> {
             }
         }
         b.truncate(64);
-        put(&mut out, &[a.len() as u64, b.len() as u64, (a.cmp(&b) as i64 + 1) as u64]);
+        put(
+            &mut out,
+            &[
+                a.len() as u64,
+                b.len() as u64,
+                (a.cmp(&b) as i64 + 1) as u64,
+            ],
+        );
         out.extend(a);
         out.extend(b);
     }
@@ -441,7 +543,8 @@ fn orders(seed: u64) -> Vec<u8> {
 
 fn main() {
     let args: Vec<String> = std::env::args().skip(1).collect();
-    let (Some(seed), Some(folder)) = (args.first().and_then(|s| s.parse().ok()), args.get(1)) else {
+    let (Some(seed), Some(folder)) = (args.first().and_then(|s| s.parse().ok()), args.get(1))
+    else {
         eprintln!("usage: vectors SEED FOLDER");
         exit(2);
     };

@@ -27,6 +27,7 @@ impl Default for RandomState {
 impl RandomState {
     /// The hash of one value.
     #[inline]
+    #[allow(clippy::manual_hash_one)]
     pub fn hash_one<T: Hash>(&self, x: T) -> u64 {
         let mut hasher = self.build_hasher();
         x.hash(&mut hasher);

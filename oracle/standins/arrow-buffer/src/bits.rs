@@ -10,7 +10,11 @@ fn word_at(bytes: &[u8], at: usize, bits: usize) -> u64 {
     let mut low = [0u8; 16];
     low[..held].copy_from_slice(&bytes[byte..byte + held]);
     let word = (u128::from_le_bytes(low) >> shift) as u64;
-    if bits == 64 { word } else { word & ((1 << bits) - 1) }
+    if bits == 64 {
+        word
+    } else {
+        word & ((1 << bits) - 1)
+    }
 }
 
 /// The ones among `len` bits from bit `offset` on: the part before the first whole word, whole words, and the rest.
@@ -44,7 +48,10 @@ impl BooleanBuffer {
     /// If the bits don't lie in the buffer.
     pub fn new(buffer: Buffer, bit_offset: usize, bit_len: usize) -> Self {
         let end = bit_offset.saturating_add(bit_len);
-        assert!(end <= buffer.len().saturating_mul(8), "buffer not large enough");
+        assert!(
+            end <= buffer.len().saturating_mul(8),
+            "buffer not large enough"
+        );
         Self {
             buffer,
             bit_offset,

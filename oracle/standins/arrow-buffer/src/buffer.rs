@@ -106,7 +106,7 @@ impl Buffer {
 
     /// Gives back memory past the end, if nobody else holds this and it begins at the memory's start.
     pub fn shrink_to_fit(&mut self) {
-        let begins = self.ptr == self.data.ptr.as_ptr() as *const u8;
+        let begins = std::ptr::eq(self.ptr, self.data.ptr.as_ptr());
         let length = self.length;
         let Some(bytes) = Arc::get_mut(&mut self.data) else {
             return;

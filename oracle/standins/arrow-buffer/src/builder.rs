@@ -50,7 +50,7 @@ impl BooleanBufferBuilder {
                 self.bytes[self.len / 8] |= 0xff << shift;
             }
             self.bytes.resize(end.div_ceil(8), 0xff);
-            if end % 8 != 0 {
+            if !end.is_multiple_of(8) {
                 self.bytes[end / 8] &= (1 << (end % 8)) - 1;
             }
         } else {

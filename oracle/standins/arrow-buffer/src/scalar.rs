@@ -109,10 +109,7 @@ impl<O: ArrowNativeType> OffsetBuffer<O> {
     /// If there is no offset, or one is negative or below the one before it.
     pub fn new(buffer: ScalarBuffer<O>) -> Self {
         assert!(!buffer.is_empty(), "offsets cannot be empty");
-        assert!(
-            buffer[0] >= O::default(),
-            "offsets must be greater than 0"
-        );
+        assert!(buffer[0] >= O::default(), "offsets must be greater than 0");
         assert!(
             buffer.windows(2).all(|w| w[0] <= w[1]),
             "offsets must be monotonically increasing"

@@ -16,17 +16,20 @@ pub struct Kept {
 pub struct ByModel {
     /// Looks after each refusal whether the builder's buffers are as they were.
     pub watch: bool,
+    /// What lent buffers hold before the first call.
+    pub fill: u8,
     builders: [Option<(State, Rooms)>; REGISTERS],
     columns: [Option<Kept>; REGISTERS],
 }
 
-/// Buffers of these sizes, all zeros.
-pub fn lend(s: &Sizes) -> Rooms {
+/// Buffers of these sizes, each byte the same.
+pub fn lend(s: &Sizes, fill: u8) -> Rooms {
+    let word = u64::from_le_bytes([fill; 8]);
     Rooms {
-        views: vec![0; s.views],
-        data: vec![0; s.data],
-        table: vec![(0, 0); s.table],
-        map: vec![0; s.map],
+        views: vec![fill; s.views],
+        data: vec![fill; s.data],
+        table: vec![(word, word); s.table],
+        map: vec![fill; s.map],
         merge: vec![0; s.merge],
     }
 }
@@ -92,6 +95,16 @@ fn cut(rooms: &Rooms, c: &Column) -> Rooms {
 }
 
 impl ByModel {
+    /// A builder's state and buffers.
+    pub fn builder(&self, b: usize) -> Option<&(State, Rooms)> {
+        self.builders[b].as_ref()
+    }
+
+    /// A column and its buffers.
+    pub fn column(&self, c: usize) -> Option<&Kept> {
+        self.columns[c].as_ref()
+    }
+
     /// A builder's call, and what the builder holds afterwards.
     fn build(
         &mut self,
@@ -193,7 +206,7 @@ impl ByModel {
         let Call::Start(b, kind, growth, merge, sizes) = call else {
             unreachable!()
         };
-        let mut rooms = lend(sizes);
+        let mut rooms = lend(sizes, self.fill);
         match model::start_merging(*kind, *growth, *merge, &mut rooms) {
             Ok(state) => {
                 self.builders[*b] = Some((state, rooms));
@@ -234,7 +247,7 @@ impl ByModel {
         let Some(k) = &self.columns[c] else {
             return (Answer::Beyond, None);
         };
-        let mut rooms = lend(s);
+        let mut rooms = lend(s, self.fill);
         match model::compact(&k.rooms.lent(), &k.column, max, &mut rooms) {
             Ok(column) => self.keep(d, rooms, column),
             Err(r) => (refused(r), None),
@@ -245,7 +258,7 @@ impl ByModel {
         let Call::Offsets(d, kind, offsets, bytes, map, sizes) = call else {
             unreachable!()
         };
-        let mut rooms = lend(sizes);
+        let mut rooms = lend(sizes, self.fill);
         match model::from_offsets(*kind, offsets, bytes, map.as_deref(), &mut rooms) {
             Ok(column) => self.keep(*d, rooms, column),
             Err(r) => (refused(r), None),
@@ -294,7 +307,7 @@ impl Engine for ByModel {
         match call {
             Call::Start(..) => self.start(call),
             Call::State(b, s, sizes) => {
-                self.builders[*b] = Some((*s, lend(sizes)));
+                self.builders[*b] = Some((*s, lend(sizes, self.fill)));
                 (Answer::Done, self.held_by(*b))
             }
             Call::Value(b, v) => self.build(*b, |s, r| model::append_value(s, r, v).map(done)),

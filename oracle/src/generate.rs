@@ -1,7 +1,7 @@
 //! Random scripts from a seed, dense around the boundaries. The model runs along, so that calls are made near the ends
 //! of what there is.
 
-use crate::answer::{Engine, Held};
+use crate::answer::{Answer, Engine, Held};
 use crate::by_model::ByModel;
 use crate::random::Random;
 use crate::script::{Call, Raw, Sizes};
@@ -39,6 +39,8 @@ pub struct Generator {
     column_kinds: Vec<Kind>,
     pool: Vec<Vec<u8>>,
     large: bool,
+    /// The model's answer to the last call.
+    answer: Answer,
 }
 
 /// A script of about so many calls.
@@ -77,7 +79,69 @@ pub fn values_of(seed: u64, rows: usize) -> (Held, Kind) {
     (g.columns[0].clone().unwrap(), g.kinds[0])
 }
 
+/// A script of calls on builder 0 over buffers of these sizes. Each column that is appended is spelled out before. For
+/// original and model nothing is refused for want of room.
+pub fn building(seed: u64, whom: For, sizes: Sizes, calls: usize) -> Vec<Call> {
+    let mut g = Generator::new(seed, whom);
+    g.large = false;
+    let (kind, growth, merge) = (g.kind(), g.growth(), g.merge());
+    g.kinds[0] = kind;
+    g.emit(Call::Start(0, kind, growth, merge, sizes));
+    while g.script.len() < calls {
+        g.build_small();
+        let room = matches!(g.answer, Answer::Refused(5..=7, ..));
+        if whom == For::Both && room {
+            g.script.pop();
+        }
+    }
+    g.script
+}
+
 impl Generator {
+    /// One call on builder 0, none of it large.
+    fn build_small(&mut self) {
+        let rows = self.builders[0].as_ref().map_or(0, |h| h.views.len());
+        match self.random.below(24) {
+            0..=8 => {
+                let v = self.value();
+                self.emit(Call::Value(0, v))
+            }
+            9 | 10 => {
+                let v = self.value();
+                let n = *self.random.pick(&[0, 1, 2, 3, 7, 8, 9, u64::MAX]);
+                let n = if self.model_alone() { n } else { n.min(9) };
+                self.emit(Call::Values(0, v, n))
+            }
+            11..=13 => self.emit(Call::Null(0)),
+            14 | 15 => {
+                let mut bytes = self.value();
+                bytes.extend(self.value());
+                self.emit(Call::Block(0, bytes))
+            }
+            16 | 17 => self.view(0),
+            18 | 19 => self.append_raw(),
+            20 | 21 => {
+                let row = self.row(rows);
+                self.emit(Call::Get(0, row))
+            }
+            22 => self.emit(Call::Copy(0, 1)),
+            _ => self.emit(Call::Finish(0, 1)),
+        }
+    }
+
+    /// A small column, sometimes damaged, spelled out and appended.
+    fn append_raw(&mut self) {
+        let rows = self.random.below(7) as usize;
+        let (held, kind) = values_of(self.random.word(), rows);
+        let first = *self.random.pick(&[0, 0, 1, 7, 8]);
+        let mut raw = spelled(&mut self.random, &held, first, kind);
+        if self.random.once_in(3) {
+            damage(&mut self.random, &mut raw, self.whom);
+        }
+        self.emit(Call::Raw(2, raw));
+        self.emit(Call::Append(0, 2));
+    }
+
     fn new(seed: u64, whom: For) -> Self {
         let mut random = Random::new(seed);
         let large = random.once_in(60);
@@ -92,6 +156,7 @@ impl Generator {
             column_kinds: vec![Kind::Binary; COLUMNS as usize],
             pool: vec![],
             large,
+            answer: Answer::Done,
         };
         g.pool = (0..12).map(|_| g.fresh_value()).collect();
         g
@@ -297,7 +362,8 @@ impl Generator {
     /// Notes the call, runs it on the model and keeps what is held afterwards.
     fn emit(&mut self, call: Call) {
         let (answer, held) = self.model.call(&call);
-        let refused = matches!(answer, crate::answer::Answer::Refused(..));
+        let refused = matches!(answer, Answer::Refused(..));
+        self.answer = answer;
         match &call {
             Call::Start(b, ..)
             | Call::State(b, ..)
@@ -511,32 +577,6 @@ impl Generator {
         }
     }
 
-    /// A maximum around the sums of some neighbouring long rows.
-    fn maximum(&mut self, lengths: &[u64]) -> u64 {
-        let total: u64 = lengths.iter().sum();
-        let some: u64 = match lengths.len() as u64 {
-            0 => 0,
-            n => {
-                let start = self.random.below(n) as usize;
-                lengths[start..]
-                    .iter()
-                    .take(1 + self.random.below(3) as usize)
-                    .sum()
-            }
-        };
-        match self.random.below(10) {
-            0 => 0,
-            1 => total,
-            2 => total.saturating_sub(1),
-            3 => i32::MAX as u64,
-            4 => self.random.below(40),
-            5 if self.random.once_in(3) => i32::MAX as u64 + 1,
-            6 => some.saturating_sub(1),
-            7 => some + 1,
-            _ => some,
-        }
-    }
-
     fn compact(&mut self, c: usize, d: usize) {
         let lengths: Vec<u64> = self.columns[c].as_ref().map_or(vec![], |h| {
             let all = h
@@ -546,13 +586,13 @@ impl Generator {
             all.filter(|n| *n > 12).collect()
         });
         let rows = self.rows_of(c) as u64;
-        let maximum = self.maximum(&lengths);
+        let maximum = maximum(&mut self.random, &lengths);
         let bytes = lengths.iter().sum::<u64>().min(1 << 22);
         let sizes = self.output(rows, lengths.len() as u64 + 1, bytes);
         self.emit(Call::Compact(c, maximum, d, sizes));
     }
 
-    fn offsets(&mut self, d: usize) {
+    fn source(&mut self) -> (Vec<i32>, Vec<u8>, Option<Vec<u8>>) {
         let rows = self.random.below(20);
         let mut bytes = if self.random.once_in(3) {
             self.value()
@@ -583,11 +623,13 @@ impl Generator {
                 _ => map = map.map(|m| m[..m.len().saturating_sub(1)].to_vec()),
             }
         }
-        let sizes = self.output(
-            offsets.len().saturating_sub(1) as u64,
-            1,
-            bytes.len() as u64,
-        );
+        (offsets, bytes, map)
+    }
+
+    fn offsets(&mut self, d: usize) {
+        let (offsets, bytes, map) = self.source();
+        let rows = offsets.len().saturating_sub(1) as u64;
+        let sizes = self.output(rows, 1, bytes.len() as u64);
         let kind = self.kind();
         self.emit(Call::Offsets(d, kind, offsets, bytes, map, sizes));
     }
@@ -605,6 +647,37 @@ impl Generator {
         }
         self.emit(Call::Raw(d, raw));
     }
+}
+
+/// A maximum around the sums of some neighbouring long rows.
+pub fn maximum(random: &mut Random, lengths: &[u64]) -> u64 {
+    let total: u64 = lengths.iter().sum();
+    let some: u64 = match lengths.len() as u64 {
+        0 => 0,
+        n => {
+            let start = random.below(n) as usize;
+            let rows = 1 + random.below(3) as usize;
+            lengths[start..].iter().take(rows).sum()
+        }
+    };
+    match random.below(10) {
+        0 => 0,
+        1 => total,
+        2 => total.saturating_sub(1),
+        3 => i32::MAX as u64,
+        4 => random.below(40),
+        5 if random.once_in(3) => i32::MAX as u64 + 1,
+        6 => some.saturating_sub(1),
+        7 => some + 1,
+        _ => some,
+    }
+}
+
+/// Offsets, bytes and perhaps a map, mostly lawful.
+pub fn offset_source(seed: u64) -> (Vec<i32>, Vec<u8>, Option<Vec<u8>>) {
+    let mut g = Generator::new(seed, For::Both);
+    g.large = false;
+    g.source()
 }
 
 /// The column with rows before it and its blocks somewhere in the data.

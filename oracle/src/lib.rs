@@ -6,5 +6,6 @@ pub mod by_original;
 pub mod checks;
 pub mod compare;
 pub mod generate;
+pub mod lists;
 pub mod random;
 pub mod script;

@@ -76,7 +76,9 @@ pub fn values_of(seed: u64, rows: usize) -> (Held, Kind) {
         }
     }
     g.emit(Call::Finish(0, 0));
-    (g.columns[0].clone().unwrap(), g.kinds[0])
+    let mut held = g.columns[0].clone().unwrap();
+    hide(&mut g.random, &mut held);
+    (held, g.kinds[0])
 }
 
 /// A script of calls on builder 0 over buffers of these sizes. Each column that is appended is spelled out before. For
@@ -144,7 +146,7 @@ impl Generator {
 
     fn new(seed: u64, whom: For) -> Self {
         let mut random = Random::new(seed);
-        let large = random.once_in(60);
+        let large = random.once_in(25);
         let mut g = Generator {
             random,
             whom,
@@ -639,6 +641,8 @@ impl Generator {
         let Some(held) = self.columns[c].clone() else {
             return;
         };
+        let mut held = held;
+        hide(&mut self.random, &mut held);
         let first = *self.random.pick(&[0, 0, 1, 3, 7, 8, 9]);
         let mut raw = spelled(&mut self.random, &held, first, self.column_kinds[c]);
         let times = *self.random.pick(&[0, 1, 1, 2]);
@@ -678,6 +682,15 @@ pub fn offset_source(seed: u64) -> (Vec<i32>, Vec<u8>, Option<Vec<u8>>) {
     let mut g = Generator::new(seed, For::Both);
     g.large = false;
     g.source()
+}
+
+/// Some rows made null, their values staying where they are.
+fn hide(random: &mut Random, held: &mut Held) {
+    if random.once_in(2) {
+        for valid in &mut held.valid {
+            *valid = *valid && !random.once_in(4);
+        }
+    }
 }
 
 /// The column with rows before it and its blocks somewhere in the data.

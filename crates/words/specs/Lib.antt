@@ -1,4 +1,5 @@
 pub mod Pick
+pub mod Only
 pub mod Words
 pub mod WordLaws
 pub mod ListLaws

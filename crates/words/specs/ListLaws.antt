@@ -11,7 +11,7 @@ use lib.Dec.{ltb, lit<}
 use lib.ListN.{length, take, drop, getD, set, drop-of-length-le, List·getD-eq-default, length-take, length-drop}
 use lib.Pow.{shr-shr}
 use lib.Seq.{drop-cons, getD-take, getD-drop, take-nil, paste, paste-zero, paste-suc, length-take-le, length-paste, take-take, drop-drop}
-use Rattle.words.specs.Words.{Bytes, wordAt, putWord, enc, dec, pad}
+use Rattle.words.specs.Words.{Bytes, wordAt, beAt, putWord, enc, dec, pad}
 use Rattle.words.specs.WordLaws.{word-split, word-past, word-one, length-put}
 
 pub length-enc : (w n : ℕ) → length (enc w n) ≡ w
@@ -80,6 +80,12 @@ unfolding wordAt
 word-part l k m i zero h = refl
 word-part l k m i (suc n) h =
     rw (word-part l k m i n (omega arith), getD-take m (drop k l) (i + n) 0 (omega arith), getD-drop k l (i + n) 0, add-assoc k i n)
+
+pub be-part : (l : List ℕ) (k m i n : ℕ) → i + n ≤ m → beAt (take m (drop k l)) i n ≡ beAt l (k + i) n
+unfolding beAt
+be-part l k m i zero h = refl
+be-part l k m i (suc n) h =
+    rw (be-part l k m i n (omega arith), getD-take m (drop k l) (i + n) 0 (omega arith), getD-drop k l (i + n) 0, add-assoc k i n)
 
 pub enc-dec : (l : List ℕ) → Bytes l → enc (length l) (dec l) ≡ l
 unfolding enc dec

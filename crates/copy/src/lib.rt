@@ -1,0 +1,93 @@
+// A copy of any length to the front of a slice: by overlapping words to 64 bytes, above through an array, which becomes memmove.
+ghost use mathlib.Core.Path.{_≡_};
+ghost use Prim.Native.Nat.{_+_, _≤_};
+ghost use lib.ListN.{length};
+ghost use Rattle.copy.specs.Over.{over};
+
+// The bytes that one memmove copies: the array stands on the stack.
+const CHUNK: usize = 4096;
+
+// 8 to 16 bytes: two words that may overlap.
+fn two_words(src: &[u8], dst: &mut [u8])
+    requires { ⌜ (8 ≤ length (now src)) × (length (now src) ≤ 16) × (length (now src) ≤ length (now dst)) ⌝ }
+    ensures { λ _. ⌜ now (dst .exit) ≡ over (now (src .entry)) (now (dst .entry)) ⌝ }
+{
+    let n = src.len();
+    let x = words::le64(src, 0);
+    let y = words::le64(src, n - 8);
+    words::put64(dst, 0, x);
+    words::put64(dst, n - 8, y);
+}
+
+// 16 to 32 bytes: four, all loaded before the first store.
+fn four_words(src: &[u8], dst: &mut [u8])
+    requires { ⌜ (16 ≤ length (now src)) × (length (now src) ≤ 32) × (length (now src) ≤ length (now dst)) ⌝ }
+    ensures { λ _. ⌜ now (dst .exit) ≡ over (now (src .entry)) (now (dst .entry)) ⌝ }
+{
+    let n = src.len();
+    let x = words::le64(src, 0);
+    let y = words::le64(src, 8);
+    let z = words::le64(src, n - 16);
+    let w = words::le64(src, n - 8);
+    words::put64(dst, 0, x);
+    words::put64(dst, 8, y);
+    words::put64(dst, n - 16, z);
+    words::put64(dst, n - 8, w);
+}
+
+// 32 to 64 bytes: the first 32 and the last 32.
+fn two_halves(src: &[u8], dst: &mut [u8])
+    requires { ⌜ (32 ≤ length (now src)) × (length (now src) ≤ 64) × (length (now src) ≤ length (now dst)) ⌝ }
+    ensures { λ _. ⌜ now (dst .exit) ≡ over (now (src .entry)) (now (dst .entry)) ⌝ }
+{
+    let o = src.len() - 32;
+    four_words(&src[0..32], dst);
+    four_words(&src[o..], &mut dst[o..]);
+}
+
+// At most a chunk, through an array: LLVM makes one memmove of the two loops.
+fn chunk(src: &[u8], dst: &mut [u8])
+    requires { ⌜ length (now src) ≤ 4096 ⌝ }
+    requires { ⌜ length (now src) ≤ length (now dst) ⌝ }
+    ensures { λ _. ⌜ now (dst .exit) ≡ over (now (src .entry)) (now (dst .entry)) ⌝ }
+{
+    let n = src.len();
+    let mut buf = [0u8; CHUNK];
+    bytes::copy(src, &mut buf);
+    bytes::copy(&buf[..n], dst);
+}
+
+// Any length, a chunk a turn.
+fn chunks(src: &[u8], dst: &mut [u8])
+    requires { ⌜ length (now src) ≤ length (now dst) ⌝ }
+    ensures { λ _. ⌜ now (dst .exit) ≡ over (now (src .entry)) (now (dst .entry)) ⌝ }
+{
+    let n = src.len();
+    let mut o = 0;
+    while o < n {
+        let e = o + words::least(n - o, CHUNK);
+        chunk(&src[o..e], &mut dst[o..]);
+        o = e;
+    }
+}
+
+// `src` is written over the front of `dst`.
+pub fn copy(src: &[u8], dst: &mut [u8])
+    requires { ⌜ length (now src) ≤ length (now dst) ⌝ }
+    ensures { λ _. ⌜ now (dst .exit) ≡ over (now (src .entry)) (now (dst .entry)) ⌝ }
+{
+    let n = src.len();
+    if n < 8 {
+        chunk(src, dst);
+    } else if n <= 16 {
+        two_words(src, dst);
+    } else if n <= 32 {
+        four_words(src, dst);
+    } else if n <= 64 {
+        two_halves(src, dst);
+    } else if n <= CHUNK {
+        chunk(src, dst);
+    } else {
+        chunks(src, dst);
+    }
+}

@@ -1,0 +1,5 @@
+pub mod Bits
+pub mod Runs
+pub mod CountLaws
+pub mod PutLaws
+pub mod RunLaws

@@ -1,0 +1,69 @@
+-- What a run of written bits means for later reads and counts. Where the run lies in the map, its rows read as written and rows before it as before.
+-- Assumes nothing.
+use mathlib.Core.Path.{_≡_, refl, sym, ap, _∙_}
+use mathlib.Core.Bool.{Bool, true, false}
+use mathlib.Core.List.{List}
+use mathlib.Core.Logic.{by-cases}
+use Prim.Native.Nat.{ℕ, zero, suc, _+_, _*_, _/_, _≤_, _<_}
+use native.Mathlib.Nat.{add-zero, add-suc, add-assoc}
+use native.Mathlib.Decide.{ℕ-discrete}
+use native.Mathlib.Omega.{arith}
+use lib.ListN.{length}
+use Rattle.null_bits.specs.Bits.{bitAt, isValid, validAt, countValid, putBit, bitOf}
+use Rattle.null_bits.specs.Runs.{putBits, putRun, copyBits, copyColumn}
+use Rattle.null_bits.specs.CountLaws.{bit-is}
+use Rattle.null_bits.specs.PutLaws.{length-put, valid-put-same, valid-put-before, count-put, bit-put-same}
+
+pub length-bits : (map : List ℕ) (first : ℕ) (bits : ℕ → Bool) (n : ℕ) → length (putBits map first bits n) ≡ length map
+unfolding putBits
+length-bits map first bits zero = refl
+length-bits map first bits (suc n) = length-put (putBits map first bits n) (first + n) (bits n) ∙ length-bits map first bits n
+
+-- a run in two parts
+pub bits-add : (map : List ℕ) (first : ℕ) (bits : ℕ → Bool) (m n : ℕ) → putBits map first bits (m + n) ≡ putBits (putBits map first bits m) (first + m) (λ k. bits (m + k)) n
+unfolding putBits
+bits-add map first bits m zero = rw add-zero
+bits-add map first bits m (suc n) = rw (add-suc, bits-add map first bits m n, add-assoc first m n)
+
+-- bits that agree write the same
+pub bits-same : (map : List ℕ) (first : ℕ) (f g : ℕ → Bool) (n : ℕ) → ((k : ℕ) → k < n → f k ≡ g k) → putBits map first f n ≡ putBits map first g n
+unfolding putBits
+bits-same map first f g zero h = refl
+bits-same map first f g (suc n) h = rw (bits-same map first f g n (λ k l. h k (omega arith)), h n (omega arith))
+
+module _ (map : List ℕ) (first : ℕ) (bits : ℕ → Bool) where
+  pub bits-before : (n j : ℕ) → first + n ≤ 8 * length map → j < first → isValid (putBits map first bits n) j ≡ isValid map j
+  unfolding putBits
+  bits-before zero j h l = refl
+  bits-before (suc n) j h l =
+      valid-put-before (putBits map first bits n) (first + n) j (bits n) (rw (length-bits map first bits n) (omega arith)) (omega arith)
+      ∙ bits-before n j (omega arith) l
+
+  pub bits-read : (n k : ℕ) → first + n ≤ 8 * length map → k < n → isValid (putBits map first bits n) (first + k) ≡ bits k
+  unfolding putBits
+  bits-read zero k h l = absurd (omega arith)
+  bits-read (suc n) k h l =
+      let room : (first + n) / 8 < length (putBits map first bits n) = rw (length-bits map first bits n) (omega arith) in
+      by-cases (ℕ-discrete k n)
+      (λ e. rw e (valid-put-same (putBits map first bits n) (first + n) (bits n) room))
+      (λ d.
+      valid-put-before (putBits map first bits n) (first + n) (first + k) (bits n) room (omega arith)
+      ∙ bits-read n k (omega arith) (omega arith))
+
+-- a column's bits are its map's, or all valid
+pub column-map : (map : List ℕ) (first : ℕ) (src : List ℕ) (mapped : Bool) (from n : ℕ) → mapped ≡ true → copyBits map first src from n ≡ copyColumn map first src mapped from n
+unfolding validAt
+column-map map first src mapped from n e = bits-same map first (λ k. isValid src (from + k)) (λ k. validAt src mapped (from + k)) n (λ k l. rw e)
+
+pub column-none : (map : List ℕ) (first : ℕ) (src : List ℕ) (mapped : Bool) (from n : ℕ) → mapped ≡ false → putRun map first n true ≡ copyColumn map first src mapped from n
+unfolding validAt
+column-none map first src mapped from n e = bits-same map first (λ k. true) (λ k. validAt src mapped (from + k)) n (λ k l. rw e)
+
+-- the rows that were copied count as their source
+pub count-copied : (map : List ℕ) (first : ℕ) (src : List ℕ) (from n : ℕ) → first + n ≤ 8 * length map → countValid (copyBits map first src from n) first n ≡ countValid src from n
+unfolding countValid putBits
+count-copied map first src from zero h = refl
+count-copied map first src from (suc n) h =
+    let was : List ℕ = copyBits map first src from n in
+    let room : (first + n) / 8 < length was = rw (length-bits map first (λ k. isValid src (from + k)) n) (omega arith) in
+    rw (count-put was (first + n) first n (isValid src (from + n)) room (omega arith), bit-put-same was (first + n) (isValid src (from + n)) room, ← bit-is src (from + n), count-copied map first src from n (omega arith))

@@ -1,0 +1,32 @@
+use mathlib.Core.Path.{_≡_, _∙_}
+use Rattle.order.proofs.Laws.{part-order}
+use denote.Ref.{now}
+use native.Mathlib.Omega.{arith}
+use borrow.Author.Needs.{needs}
+use Rattle.order.proofs.cmp_prefix.Statement.{statement}
+use Rattle.order.proofs.cmp_prefix.Tie as tie
+use Rattle.order.proofs.cmp_prefix.Reads as reads
+use Rattle.order.proofs.cmp_prefix.Lts as lts
+use Rattle.order.proofs.by_word.Reads as by-word-reads
+use Rattle.words.proofs.be32.Reads as be32-reads
+
+-- src/lib.rt:155:13
+be32-requires : tie.Need-be32-requires
+be32-requires c κs = search needs
+
+-- src/lib.rt:155:32
+be32-requires-2 : tie.Need-be32-requires-2
+be32-requires-2 c κs = search needs
+
+-- src/lib.rt:155:5
+by-word-requires : tie.Need-by-word-requires
+by-word-requires c κs = search needs
+
+-- src/lib.rt:151:1
+returns : tie.Need-returns
+returns c =
+    let s = c .before .before .before .before .before .args in
+    c .by-word .ensures ∙ rw (c .before .before .be32 .ensures .0, c .before .be322 .ensures .0) (part-order (now (s .v)) (now (s .w)) 4 4 (λ j. c .before .before .before .before .shared-slice-known .given j .fits) (λ j. c .before .before .before .shared-slice-known2 .given j .fits) (omega arith) (omega arith))
+
+pub cmp-prefix-spec : {M : Type 1} → statement M
+cmp-prefix-spec = tie.close (tie.spec be32-requires be32-requires-2 by-word-requires returns)

@@ -104,6 +104,48 @@ fn compacted(lengths: &[usize], maximum: u64) -> (Vec<usize>, Vec<usize>) {
     )
 }
 
+/// All lists of three of these lengths.
+fn triples(of: &[usize]) -> Vec<[usize; 3]> {
+    let mut all = vec![];
+    for a in of {
+        for b in of {
+            for c in of {
+                all.push([*a, *b, *c]);
+            }
+        }
+    }
+    all
+}
+
+/// Every short list at every maximum, and every fixed block size: original and model agree.
+fn small_lists(t: &mut Tally) {
+    let all = triples(&[0, 12, 13, 14, 26, 31]);
+    let same = |l: &[usize; 3], max| {
+        let (theirs, ours) = compacted(l, max);
+        theirs == ours
+    };
+    let compacted = all.iter().all(|l| (0..=80).all(|max| same(l, max)));
+    t.that(
+        "compaction of three rows at every maximum from 0 to 80, original and model",
+        compacted,
+    );
+    let placed = |l: &[usize; 3], size: u32| {
+        let values = of_lengths(l);
+        let theirs = theirs(&values, Some(size));
+        let ours = our_views(&values, Growth::Fixed(size as u64));
+        theirs
+            .views()
+            .iter()
+            .map(|v| v.to_le_bytes().to_vec())
+            .eq(ours)
+    };
+    let built = all.iter().all(|l| (1..=80).all(|size| placed(l, size)));
+    t.that(
+        "three values in blocks of every fixed size from 1 to 80, original and model",
+        built,
+    );
+}
+
 fn compacts(lengths: &[usize], maximum: u64, blocks: &[usize]) -> bool {
     let (theirs, ours) = compacted(lengths, maximum);
     theirs == blocks && ours == blocks
@@ -114,13 +156,20 @@ fn block_numbers(array: &BinaryViewArray) -> Vec<u32> {
     array.views().iter().map(|v| (*v >> 64) as u32).collect()
 }
 
-fn our_block_numbers(values: &[Vec<u8>], growth: Growth) -> Vec<u32> {
+/// The model's views of these values.
+fn our_views(values: &[Vec<u8>], growth: Growth) -> Vec<Vec<u8>> {
     let mut ours = Ours::binary(growth);
     for v in values {
         ours.value(v).unwrap();
     }
-    let number = |r| u32::from_le_bytes(ours.view(r)[8..12].try_into().unwrap());
-    (0..values.len()).map(number).collect()
+    (0..values.len())
+        .map(|row| ours.view(row).to_vec())
+        .collect()
+}
+
+fn our_block_numbers(values: &[Vec<u8>], growth: Growth) -> Vec<u32> {
+    let number = |view: Vec<u8>| u32::from_le_bytes(view[8..12].try_into().unwrap());
+    our_views(values, growth).into_iter().map(number).collect()
 }
 
 /// The order of two values by both.
@@ -417,6 +466,15 @@ fn differences_columns(t: &mut Tally) {
         "compaction: the original's compacted map keeps its bit offset",
         a.nulls().unwrap().inner().offset() == 3,
     );
+    let one = theirs(&of_lengths(&[1]), None);
+    let mut ours = Ours::binary(DOUBLING);
+    ours.value(b"A").unwrap();
+    let (_, c) = model::finish(&ours.s, &mut ours.rooms).unwrap();
+    let past = model::null_bit(&ours.rooms.lent(), &c, 1);
+    t.that(
+        "null bit past the rows: the original without a map says valid, ours is 3",
+        one.is_valid(1) && past == Err(Refusal::new(3)),
+    );
     let mut b = BinaryViewBuilder::new();
     b.append_value([0xffu8]);
     let text = b.finish().to_string_view();
@@ -540,6 +598,7 @@ pub fn all() -> Tally {
     let mut t = Tally::default();
     bench_1_to_5(&mut t);
     bench_6_to_10(&mut t);
+    small_lists(&mut t);
     shelf(&mut t);
     differences_builder(&mut t);
     differences_columns(&mut t);

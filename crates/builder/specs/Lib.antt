@@ -1,0 +1,5 @@
+pub mod State
+pub mod Start
+pub mod Values
+pub mod Others
+pub mod Finish

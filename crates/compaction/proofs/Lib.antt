@@ -1,0 +1,4 @@
+pub mod Kept
+pub mod Compacted
+pub mod Bound
+pub mod Cases

@@ -1,0 +1,1 @@
+// Compaction of a column into buffers of its own.

@@ -1,0 +1,2 @@
+pub mod Earliest
+pub mod Table

@@ -1,0 +1,106 @@
+-- Reading a column: why each call refuses, and what it answers. Assumes nothing.
+use mathlib.Core.Bool.{Bool, true, false, not}
+use mathlib.Core.List.{List, []}
+use Prim.Native.Nat.{ℕ, zero, suc, _+_, _-_}
+use lib.Dec.{leb, ltb}
+use lib.ListN.{length, take, drop}
+use Rattle.words.specs.Pick.{pick}
+use Rattle.null_bits.specs.Bits.{countNulls}
+use Rattle.bounds.specs.Refusals.{refuse, ifAccepted}
+use Rattle.bounds.specs.declared.Refusal.{Refusal}
+use Rattle.bounds.specs.declared.Refusal.the-variants.{Fit, Row, BadView}
+use Rattle.bounds.specs.declared.Why.{Why}
+use Rattle.bounds.specs.declared.Why.the-variants.{Accepted, Refused}
+use Rattle.views.specs.View.{lengthOf, isShort}
+use Rattle.column.specs.declared.Column.{Column}
+use Rattle.column.specs.Lent.{Lent, fits}
+use Rattle.column.specs.Meaning.{rowView, shownAt, validAt}
+use Rattle.column.specs.Truth.{reachableAt}
+use Rattle.reading.specs.declared.Number.{Number}
+use Rattle.reading.specs.declared.Number.the-variants as number
+use Rattle.reading.specs.declared.Bit.{Bit}
+use Rattle.reading.specs.declared.Bit.the-variants as bit
+use Rattle.reading.specs.declared.Sliced.{Sliced}
+use Rattle.reading.specs.declared.Sliced.the-variants as sliced
+
+-- 2
+unfoldable pub whyColumn : Lent → Column → Why
+whyColumn l c = refuse Fit (not (fits l c)) Accepted
+
+-- 2, 3: of rows that begin at start, and count of them
+unfoldable pub whyRun : Lent → Column → ℕ → ℕ → Why
+whyRun l c start count = refuse Fit (not (fits l c)) (refuse Row (ltb (c .rows) (start + count)) Accepted)
+
+-- 2, 3: of one row
+unfoldable pub whyRow : Lent → Column → ℕ → Why
+whyRow l c r = whyRun l c r 1
+
+-- 2, 3, 11
+unfoldable pub whyValue : Lent → Column → ℕ → Why
+whyValue l c r = refuse Fit (not (fits l c)) (refuse Row (leb (c .rows) r) (refuse (BadView r) (not (reachableAt l c r)) Accepted))
+
+-- a row's value, empty where it is refused
+unfoldable pub valueAt : Lent → Column → ℕ → List ℕ
+valueAt l c r = ifAccepted (whyValue l c r) (shownAt l c r) []
+
+-- the first n bytes, and the last n: none where there are fewer
+unfoldable pub prefixOf : ℕ → List ℕ → List ℕ
+prefixOf n x = pick (leb n (length x)) (take n x) []
+
+unfoldable pub suffixOf : ℕ → List ℕ → List ℕ
+suffixOf n x = pick (leb n (length x)) (drop (length x - n) x) []
+
+-- of what a row's value is, which is empty where it is refused
+unfoldable pub prefixAt : Lent → Column → ℕ → ℕ → List ℕ
+prefixAt l c r n = prefixOf n (valueAt l c r)
+
+unfoldable pub suffixAt : Lent → Column → ℕ → ℕ → List ℕ
+suffixAt l c r n = suffixOf n (valueAt l c r)
+
+-- a number where the call is accepted
+abbrev pub numbered : Why → ℕ → Number
+numbered Accepted n = number.Is n
+numbered (Refused r) n = number.Refused r
+
+-- a row's length is its view's, reachable or not
+unfoldable pub lengthAt : Lent → Column → ℕ → Number
+lengthAt l c r = numbered (whyRow l c r) (lengthOf (rowView l c r))
+
+abbrev pub bitWhen : Why → Bool → Bit
+bitWhen Accepted true = bit.Valid
+bitWhen Accepted false = bit.Null
+bitWhen (Refused r) v = bit.Refused r
+
+unfoldable pub bitOf : Lent → Column → ℕ → Bit
+bitOf l c r = bitWhen (whyRow l c r) (validAt l c r)
+
+-- how many of the rows from start on, count of them, are null
+unfoldable pub nullRun : Lent → Column → ℕ → ℕ → Number
+nullRun l c start count = numbered (whyRun l c start count) (countNulls (l .nulls) (c .mapped) (c .first + start) count)
+
+-- the column from row start on, count rows of it, over the same buffers
+abbrev pub sliceOf : Column → ℕ → ℕ → Column
+sliceOf c start count = record { first = c .first + start; rows = count; blocks = c .blocks; kind = c .kind; mapped = c .mapped }
+
+abbrev pub slicedWhen : Why → Column → Sliced
+slicedWhen Accepted c = sliced.Is c
+slicedWhen (Refused r) c = sliced.Refused r
+
+unfoldable pub slice : Lent → Column → ℕ → ℕ → Sliced
+slice l c start count = slicedWhen (whyRun l c start count) (sliceOf c start count)
+
+-- the lengths of the first n rows that aren't null
+unfoldable pub bytesLen : Lent → Column → ℕ → ℕ
+bytesLen l c zero = 0
+bytesLen l c (suc n) = bytesLen l c n + pick (validAt l c n) (lengthOf (rowView l c n)) 0
+
+unfoldable pub totalBytesLen : Lent → Column → Number
+totalBytesLen l c = numbered (whyColumn l c) (bytesLen l c (c .rows))
+
+-- the lengths of the long ones of the first n rows, null or not
+unfoldable pub bufferBytes : Lent → Column → ℕ → ℕ
+bufferBytes l c zero = 0
+bufferBytes l c (suc n) = bufferBytes l c n + pick (isShort (lengthOf (rowView l c n))) 0 (lengthOf (rowView l c n))
+
+unfoldable pub totalBufferBytesUsed : Lent → Column → Number
+totalBufferBytesUsed l c = numbered (whyColumn l c) (bufferBytes l c (c .rows))

@@ -1,0 +1,1 @@
+// The validity check of a column.

@@ -45,7 +45,7 @@ pub struct Generator {
 
 /// A script of about so many calls.
 pub fn script(seed: u64, whom: For, calls: usize) -> Vec<Call> {
-    let mut g = Generator::new(seed, whom);
+    let mut g = Generator::new(seed, whom, true);
     for b in 0..BUILDERS as usize {
         g.start(b);
     }
@@ -57,8 +57,7 @@ pub fn script(seed: u64, whom: For, calls: usize) -> Vec<Call> {
 
 /// What a column of so many rows holds, made by value, null, block and view calls under random settings.
 pub fn values_of(seed: u64, rows: usize) -> (Held, Kind) {
-    let mut g = Generator::new(seed, For::Both);
-    g.large = false;
+    let mut g = Generator::new(seed, For::Both, false);
     g.start(0);
     while g.builders[0].as_ref().map_or(0, |h| h.views.len()) < rows {
         match g.random.below(8) {
@@ -84,8 +83,7 @@ pub fn values_of(seed: u64, rows: usize) -> (Held, Kind) {
 /// A script of calls on builder 0 over buffers of these sizes. Each column that is appended is spelled out before. For
 /// original and model nothing is refused for want of room.
 pub fn building(seed: u64, whom: For, sizes: Sizes, calls: usize) -> Vec<Call> {
-    let mut g = Generator::new(seed, whom);
-    g.large = false;
+    let mut g = Generator::new(seed, whom, false);
     let (kind, growth, merge) = (g.kind(), g.growth(), g.merge());
     g.kinds[0] = kind;
     g.emit(Call::Start(0, kind, growth, merge, sizes));
@@ -144,9 +142,10 @@ impl Generator {
         self.emit(Call::Append(0, 2));
     }
 
-    fn new(seed: u64, whom: For) -> Self {
+    /// `large`: one in 25 has values around the first sizes of the doubling.
+    fn new(seed: u64, whom: For, large: bool) -> Self {
         let mut random = Random::new(seed);
-        let large = random.once_in(25);
+        let large = large && random.once_in(25);
         let mut g = Generator {
             random,
             whom,
@@ -172,7 +171,7 @@ impl Generator {
     fn length(&mut self) -> u64 {
         match self.random.below(8) {
             0 => self.random.below(40),
-            1 if self.large => *self.random.pick(&LARGE),
+            1 | 2 if self.large => *self.random.pick(&LARGE),
             _ => *self.random.pick(&LENGTHS),
         }
     }
@@ -265,6 +264,7 @@ impl Generator {
     fn growth(&mut self) -> Growth {
         match self.random.below(3) {
             0 => Growth::Doubling(8192),
+            1 if self.large => Growth::Doubling(8192),
             1 => Growth::Fixed(1 + self.random.below(70)),
             _ => Growth::Fixed(*self.random.pick(&FIXED)),
         }
@@ -283,7 +283,7 @@ impl Generator {
         if !self.model_alone() || self.random.once_in(3) {
             return Sizes {
                 views: 16 * 4096,
-                data: 1 << 22,
+                data: if self.large { 1 << 24 } else { 1 << 22 },
                 table: 4096,
                 map: 512,
                 merge: 4096,
@@ -589,7 +589,7 @@ impl Generator {
         });
         let rows = self.rows_of(c) as u64;
         let maximum = maximum(&mut self.random, &lengths);
-        let bytes = lengths.iter().sum::<u64>().min(1 << 22);
+        let bytes = lengths.iter().sum::<u64>().min(1 << 24);
         let sizes = self.output(rows, lengths.len() as u64 + 1, bytes);
         self.emit(Call::Compact(c, maximum, d, sizes));
     }
@@ -679,8 +679,7 @@ pub fn maximum(random: &mut Random, lengths: &[u64]) -> u64 {
 
 /// Offsets, bytes and perhaps a map, mostly lawful.
 pub fn offset_source(seed: u64) -> (Vec<i32>, Vec<u8>, Option<Vec<u8>>) {
-    let mut g = Generator::new(seed, For::Both);
-    g.large = false;
+    let mut g = Generator::new(seed, For::Both, false);
     g.source()
 }
 

@@ -650,6 +650,10 @@ impl Generator {
             damage(&mut self.random, &mut raw, self.whom);
         }
         self.emit(Call::Raw(d, raw));
+        if self.random.once_in(2) {
+            let to = self.column();
+            self.compact(d, to);
+        }
     }
 }
 

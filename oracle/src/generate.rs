@@ -37,6 +37,8 @@ pub struct Generator {
     kinds: Vec<Kind>,
     columns: Vec<Option<Held>>,
     column_kinds: Vec<Kind>,
+    /// Columns that there are; of those whose numbers don't fit nothing is held.
+    there: Vec<bool>,
     pool: Vec<Vec<u8>>,
     large: bool,
     /// The model's answer to the last call.
@@ -155,6 +157,7 @@ impl Generator {
             kinds: vec![Kind::Binary; BUILDERS as usize],
             columns: vec![None; COLUMNS as usize],
             column_kinds: vec![Kind::Binary; COLUMNS as usize],
+            there: vec![false; COLUMNS as usize],
             pool: vec![],
             large,
             answer: Answer::Done,
@@ -365,6 +368,19 @@ impl Generator {
     fn emit(&mut self, call: Call) {
         let (answer, held) = self.model.call(&call);
         let refused = matches!(answer, Answer::Refused(..));
+        match &call {
+            Call::Finish(_, d)
+            | Call::Copy(_, d)
+            | Call::Compact(_, _, d, _)
+            | Call::Slice(_, _, _, d)
+            | Call::Offsets(d, ..)
+            | Call::Raw(d, _)
+                if !refused =>
+            {
+                self.there[*d] = true
+            }
+            _ => (),
+        }
         self.answer = answer;
         match &call {
             Call::Start(b, ..)
@@ -416,9 +432,7 @@ impl Generator {
 
     /// A column that there is, if there is one.
     fn some_column(&mut self) -> usize {
-        let there: Vec<usize> = (0..self.columns.len())
-            .filter(|c| self.columns[*c].is_some())
-            .collect();
+        let there: Vec<usize> = (0..self.there.len()).filter(|c| self.there[*c]).collect();
         if there.is_empty() {
             0
         } else {
@@ -427,11 +441,12 @@ impl Generator {
     }
 
     fn rows_of(&self, c: usize) -> usize {
-        self.columns[c].as_ref().map_or(0, |h| h.views.len())
+        let held = self.columns[c].as_ref();
+        held.map_or(if self.there[c] { 9 } else { 0 }, |h| h.views.len())
     }
 
     fn step(&mut self) {
-        if self.columns.iter().all(|c| c.is_none()) || self.random.once_in(2) {
+        if !self.there.contains(&true) || self.random.once_in(2) {
             self.build();
         } else {
             self.ask();
@@ -443,7 +458,11 @@ impl Generator {
         let rows = self.builders[b].as_ref().map_or(0, |h| h.views.len());
         if rows > ENOUGH {
             let c = self.column();
-            return self.emit(Call::Finish(b, c));
+            self.emit(Call::Finish(b, c));
+            if matches!(self.answer, Answer::Refused(..)) {
+                self.start(b);
+            }
+            return;
         }
         match self.random.below(24) {
             0..=9 => {
@@ -480,11 +499,11 @@ impl Generator {
                 let row = self.row(rows);
                 self.emit(Call::Get(b, row))
             }
-            21 => {
+            21 if rows > 3 || self.random.once_in(4) => {
                 let c = self.column();
                 self.emit(Call::Finish(b, c))
             }
-            22 => {
+            22 if rows > 3 || self.random.once_in(4) => {
                 let c = self.column();
                 self.emit(Call::Copy(b, c))
             }
@@ -502,6 +521,10 @@ impl Generator {
                 .map(|b| b.as_ref().map_or(0, |b| b.len() as u64))
                 .collect()
         });
+        if lengths.is_empty() && !self.random.once_in(4) {
+            let bytes = self.value();
+            return self.emit(Call::Block(b, bytes));
+        }
         let block = self.row(lengths.len());
         let len = *lengths.get(block as usize).unwrap_or(&20);
         let offset = if self.random.once_in(2) {

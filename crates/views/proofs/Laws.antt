@@ -11,7 +11,7 @@ use lib.Seq.{drop-nil, paste, paste-zero, paste-suc, length-paste, take-paste, d
 use Rattle.words.specs.Words.{Bytes, wordAt, putWord, enc, pad}
 use Rattle.words.specs.WordLaws.{le4, word-one, word-split, word-past, word-tail}
 use Rattle.words.specs.ListLaws.{length-enc, put-enc}
-use Rattle.views.specs.View.{shortView, longView}
+use Rattle.views.specs.View.{shortView, longView, zeroView}
 
 -- two words side by side
 paste-two : (l x y : List ℕ) (i n m : ℕ) → length x ≡ n → length y ≡ m → i + n + m ≤ length l → paste (paste l i x n) (i + n) y m ≡ paste l i (x ++ y) (n + m)
@@ -77,6 +77,10 @@ pub long-words : (l v : List ℕ) (o x y k f : ℕ) → Bytes v → o + 16 ≤ l
 unfolding longView
 long-words l v o x y k f hb h hv hk ex ey =
     rw (two-stores l o x y h, first-word v x hb hv ex, ey, enc-cat 4 4 k f hk, append-assoc (enc 4 (length v)) (pad 4 v) (enc 4 k ++ enc 4 f))
+
+pub zero-words : (l : List ℕ) (o : ℕ) → o + 16 ≤ length l → putWord (putWord l o 0 8) (o + 8) 0 8 ≡ paste l o zeroView 16
+unfolding zeroView enc pad
+zero-words l o h = two-stores l o 0 0 h
 
 -- ---- the words, by the length of the value
 

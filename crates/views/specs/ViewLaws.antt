@@ -226,3 +226,12 @@ module _ (x : List ℕ) (b o : ℕ) where
       by : (w : Why) → length (ifAccepted w (makeView x b o) zeroView) ≡ viewSize
       by Accepted = length-make x b o
       by (Refused r) = length-pad 16 []
+
+  -- the answer's parts
+  pub made-why : makeOf x b o .why ≡ viewWhy x
+  unfolding makeOf
+  made-why = refl
+
+  pub made-view : viewWhy x ≡ Accepted → makeOf x b o .view ≡ makeView x b o
+  unfolding makeOf
+  made-view h = rw h

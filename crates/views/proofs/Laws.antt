@@ -2,12 +2,11 @@
 use mathlib.Core.Path.{_≡_, refl, sym, ap, _∙_}
 use mathlib.Core.List.{List, [], _∷_, _++_, append-assoc}
 use Prim.Native.Nat.{ℕ, zero, suc, _+_, _-_, _*_, _/_, _%_, _^_, _≤_, _<_}
-use native.Mathlib.Nat.{add-zero, zero-add, add-suc, suc-add, add-assoc, mul-suc, add-comm, mul-comm, mul-assoc, one-mul, div-one, pow-suc}
-use native.Mathlib.Numerals.{add-one, one-add}
+use native.Mathlib.Nat.{add-zero, zero-add, suc-add, add-assoc, mul-comm, mul-assoc, one-mul, pow-suc}
+use native.Mathlib.Numerals.{one-add}
 use native.Mathlib.Omega.{arith}
-use lib.ListN.{length, getD, take, drop, length-append, length-drop, List·getD-eq-default}
-use lib.Pow.{pow-add, shr-shr}
-use lib.Seq.{drop-nil, paste, paste-zero, paste-suc, length-paste, take-paste, drop-paste, drop-drop, getD-drop, take-all}
+use lib.ListN.{length, getD, take, drop, length-append, List·getD-eq-default}
+use lib.Seq.{drop-nil, paste, length-paste, take-paste, drop-paste, drop-drop, getD-drop, take-all}
 use Rattle.words.specs.Words.{Bytes, wordAt, putWord, enc, pad}
 use Rattle.words.specs.WordLaws.{le4, word-one, word-split, word-past, word-tail}
 use Rattle.words.specs.ListLaws.{length-enc, put-enc}
@@ -82,7 +81,7 @@ pub zero-words : (l : List ℕ) (o : ℕ) → o + 16 ≤ length l → putWord (p
 unfolding zeroView enc pad
 zero-words l o h = two-stores l o 0 0 h
 
--- ---- the words, by the length of the value
+-- the words, by the length of the value
 
 pub few-is : (v : List ℕ) (x : ℕ) → x ≡ getD v 0 0 + 256 * getD v 1 0 + 65536 * getD v 2 0 → length v < 4 → x ≡ wordAt v 0 4
 few-is v x e h = omega (arith, le4 v 0, List·getD-eq-default v 0 {n = 3} (omega arith))

@@ -1,12 +1,9 @@
 -- `text_exports::text_make_view` meets its contract. Assumes nothing.
-use Prim.Native.Nat.{ℕ}
 use mathlib.Core.Path.{_≡_, refl, sym, ap, _∙_}
 use native.Mathlib.Omega.{arith}
 use denote.Ref.{now}
 use lib.ListN.{length}
-use Rattle.bounds.specs.Refusals.{whyNumber, ifAccepted}
-use Rattle.bounds.specs.declared.Why.{Why}
-use Rattle.bounds.specs.declared.Why.the-variants.{Accepted, Refused}
+use Rattle.bounds.specs.declared.Why.the-variants.{Accepted}
 use Rattle.views.specs.declared.Made.{Made}
 use Rattle.views.specs.Made.{viewWhy}
 use Rattle.views.specs.View.{makeView}

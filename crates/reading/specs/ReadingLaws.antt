@@ -102,6 +102,10 @@ module _ (l : Lent) (c : Column) where
   unfolding whyColumn refuse
   column-fit f = rw f
 
+  pub column-known : isAccepted (whyColumn l c) ≡ true → fits l c ≡ true
+  unfolding whyColumn
+  column-known a = not-false (fits l c) (accepted-both Fit (not (fits l c)) Accepted a .0)
+
 -- ---- prefix and suffix of a part
 
 module _ (n : ℕ) (x : List ℕ) where

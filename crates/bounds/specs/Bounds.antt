@@ -37,7 +37,7 @@ unfolding mostCompaction
 most-compaction-is = refl
 
 -- rows, places of rows times sixteen, blocks and bytes are far below what a word of 32 bits holds
-pub row-limit-small : rowLimit < 65536
+pub row-limit-small : rowLimit < 16777216
 unfolding rowLimit
 row-limit-small = lit< tt
 

@@ -7,6 +7,8 @@ use lib.ListN.{length, set}
 use lib.Seq.{paste}
 use Rattle.words.specs.Pick.{pick}
 use Rattle.bounds.specs.Bounds.{rowLimit}
+use Rattle.bounds.specs.Refusals.{ifAccepted}
+use Rattle.bounds.specs.declared.Why.{Why}
 use Rattle.null_bits.specs.Bits.{putBit}
 use Rattle.growth.specs.Growing.{sizeOf, grown, fitsGrowth}
 use Rattle.growth.specs.declared.Growth.{Growth}
@@ -29,6 +31,10 @@ moved s growth rows blocks base fill cap nulled =
 
 abbrev pub builder : State → Lent → List ℕ → Builder
 builder s l places = record { state = s; lent = l; places = places }
+
+-- what a call leaves: what it does where it is accepted, and everything as it came where it is refused
+abbrev pub outcome : Why → (Builder → Builder) → Builder → Builder
+outcome w does b = ifAccepted w (does b) b
 
 -- the merge table bounds the rows where it is used
 abbrev pub placesRoom : Merging → List ℕ → ℕ

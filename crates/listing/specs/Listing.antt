@@ -1,4 +1,4 @@
--- The text that lists a Binary column, and the shelf list's lines after it, as bytes of ASCII. Assumes nothing.
+-- The text that lists a Binary column, as bytes of ASCII. Assumes nothing.
 use mathlib.Core.Bool.{Bool, true, false}
 use mathlib.Core.List.{List, [], _∷_, _++_}
 use Prim.Native.Nat.{ℕ, zero, suc, _+_, _-_, _*_, _/_, _%_}
@@ -7,9 +7,6 @@ use Rattle.words.specs.Pick.{pick}
 use Rattle.column.specs.declared.Column.{Column}
 use Rattle.column.specs.Lent.{Lent}
 use Rattle.column.specs.Meaning.{shownAt, validAt}
-
-lineEnd : List ℕ
-lineEnd = 10 ∷ []
 
 -- the digits of n; as many as there are, at most fuel
 unfoldable pub digits : ℕ → ℕ → List ℕ

@@ -1,6 +1,6 @@
 -- Lists by row, and stores into buffers of any content as steps of the lists that they stand for: a view, a bit, bytes, a block's record. Assumes nothing.
 use mathlib.Core.Path.{_≡_, refl, sym, _∙_}
-use mathlib.Core.Bool.{Bool, true}
+use mathlib.Core.Bool.{Bool}
 use mathlib.Core.List.{List, [], _∷_, _++_, map-append}
 use mathlib.Core.Logic.{by-cases}
 use Prim.Native.Nat.{ℕ, zero, suc, _+_, _*_, _/_, _≤_, _<_}
@@ -8,7 +8,7 @@ use native.Mathlib.Decide.{ℕ-discrete}
 use native.Mathlib.Omega.{arith}
 use lib.ListN.{length, take, drop, getD, set, length-append, length-take, length-drop, length-map, List·getD-append, List·getD-map, List·getD-eq-default}
 use lib.Seq.{paste, ext-getD, getD-at, getD-take, take-all, take-add, drop-drop, take-suc-set, length-take-le}
-use Rattle.null_bits.specs.Bits.{validAt, putBit}
+use Rattle.null_bits.specs.Bits.{isValid, putBit}
 use Rattle.null_bits.specs.PutLaws.{valid-put-same, valid-put-before}
 use Rattle.views.specs.View.{viewSize, viewAt}
 use Rattle.views.specs.ViewLaws.{part-stored, part-before, view-stored, view-before}
@@ -52,9 +52,8 @@ pub views-paste : (s v : List ℕ) (n : ℕ) → length v ≡ viewSize → viewS
     → rowsOf (viewAt (paste s (viewSize * n) v viewSize)) (suc n) ≡ rowsOf (viewAt s) n ++ v ∷ []
 views-paste s v n h k = rows-last (viewAt (paste s (viewSize * n) v viewSize)) (viewAt s) n v (view-before s v n h k) (view-stored s v n h k)
 
-pub bits-put : (m : List ℕ) (b : Bool) (n : ℕ) → n / 8 < length m → rowsOf (validAt (putBit m n b) true) (suc n) ≡ rowsOf (validAt m true) n ++ b ∷ []
-unfolding validAt
-bits-put m b n h = rows-last (validAt (putBit m n b) true) (validAt m true) n b (λ i k. valid-put-before m n i b h k) (valid-put-same m n b h)
+pub bits-put : (m : List ℕ) (b : Bool) (n : ℕ) → n / 8 < length m → rowsOf (isValid (putBit m n b)) (suc n) ≡ rowsOf (isValid m) n ++ b ∷ []
+bits-put m b n h = rows-last (isValid (putBit m n b)) (isValid m) n b (λ i k. valid-put-before m n i b h k) (valid-put-same m n b h)
 
 module _ (d : List ℕ) (at : ℕ) (x : List ℕ) (fits : at + length x ≤ length d) where
   pub paste-here : take (length x) (drop at (paste d at x (length x))) ≡ x

@@ -1,0 +1,12 @@
+pub mod Fits
+pub mod Blocks
+pub mod Steps
+pub mod Appends
+pub mod Finishing
+pub mod Promised
+pub mod Computed
+pub mod Bench
+pub mod Merging
+pub mod Merged
+pub mod Wrong
+pub mod Defined

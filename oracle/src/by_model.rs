@@ -58,37 +58,40 @@ pub fn order_text(order: Order) -> &'static str {
     }
 }
 
-/// What the rows and blocks hold. None where the numbers don't fit.
-fn held(rooms: &Rooms, c: &Column) -> Option<Held> {
-    let lent = rooms.lent();
-    model::total_bytes_len(&lent, c).ok()?;
-    let view = |row: u64| {
-        let at = (c.first + row) as usize * 16;
+/// What the rows and these blocks hold. None where the rows aren't all there.
+fn held(rooms: &Rooms, blocks: &[(u64, u64)], c: &Column) -> Option<Held> {
+    let end = c.first.checked_add(c.rows)? as usize;
+    let views = rooms.views.len() / 16;
+    if views < end || c.mapped && rooms.map.len() * 8 < end {
+        return None;
+    }
+    let view = |r: u64| {
+        let at = r as usize * 16;
         rooms.views[at..at + 16].try_into().unwrap()
     };
     let block = |b: &(u64, u64)| {
         let end = b.0.checked_add(b.1)?;
         Some(rooms.data.get(b.0 as usize..end as usize)?.to_vec())
     };
+    let rows = c.first..c.first + c.rows;
     Some(Held {
-        views: (0..c.rows).map(view).collect(),
-        valid: (0..c.rows)
-            .map(|row| model::null_bit(&lent, c, row).unwrap())
+        views: rows.clone().map(view).collect(),
+        valid: rows
+            .map(|r| !c.mapped || model::is_valid(&rooms.map, r))
             .collect(),
-        blocks: rooms.table[..c.blocks as usize].iter().map(block).collect(),
+        blocks: blocks.iter().map(block).collect(),
     })
 }
 
 /// The buffers as far as a finished column needs them.
 fn cut(rooms: &Rooms, c: &Column) -> Rooms {
-    let used = rooms.table[..c.blocks as usize]
-        .iter()
-        .map(|b| b.0 + b.1)
-        .max();
+    let table = &rooms.table[..c.blocks as usize];
+    let used = table.iter().map(|b| b.0.saturating_add(b.1)).max();
+    let used = used.unwrap_or(0).min(rooms.data.len() as u64);
     Rooms {
         views: rooms.views[..c.rows as usize * 16].to_vec(),
-        data: rooms.data[..used.unwrap_or(0) as usize].to_vec(),
-        table: rooms.table[..c.blocks as usize].to_vec(),
+        data: rooms.data[..used as usize].to_vec(),
+        table: table.to_vec(),
         map: rooms.map[..(c.rows as usize).div_ceil(8)].to_vec(),
         merge: vec![],
     }
@@ -126,48 +129,26 @@ impl ByModel {
         (said, self.held_by(b))
     }
 
-    /// What a builder holds, by a finish-by-copy of a copy.
+    /// What a builder holds, the open block last.
     fn held_by(&self, b: usize) -> Option<Held> {
-        let (state, rooms) = self.builders[b].as_ref()?;
-        let mut s = *state;
-        s.nulls = true;
-        let blocks = s.blocks as usize + if s.open > 0 { 1 } else { 0 };
-        let mut table = rooms.table.get(..blocks)?.to_vec();
+        let (s, rooms) = self.builders[b].as_ref()?;
+        let mut blocks = rooms.table.get(..s.blocks as usize)?.to_vec();
         if s.open > 0 {
-            table[blocks - 1] = (s.before, s.open);
+            blocks.push((s.before, s.open));
         }
         let column = Column {
             first: 0,
             rows: s.rows,
-            blocks: blocks as u64,
+            blocks: blocks.len() as u64,
             kind: s.kind,
             mapped: true,
         };
-        let view = |row: u64| {
-            let at = row as usize * 16;
-            rooms.views[at..at + 16].try_into().unwrap()
-        };
-        let rows = column.rows as usize;
-        if rooms.views.len() / 16 < rows || rooms.map.len() * 8 < rows {
-            return None;
-        }
-        Some(Held {
-            views: (0..column.rows).map(view).collect(),
-            valid: (0..column.rows)
-                .map(|r| model::is_valid(&rooms.map, r))
-                .collect(),
-            blocks: table
-                .iter()
-                .map(|b| {
-                    let end = b.0.checked_add(b.1)?;
-                    Some(rooms.data.get(b.0 as usize..end as usize)?.to_vec())
-                })
-                .collect(),
-        })
+        held(rooms, &blocks, &column)
     }
 
     fn keep(&mut self, d: usize, rooms: Rooms, column: Column) -> (Answer, Option<Held>) {
-        let held = held(&rooms, &column);
+        let blocks = rooms.table.get(..column.blocks as usize);
+        let held = blocks.and_then(|blocks| held(&rooms, blocks, &column));
         self.columns[d] = Some(Kept { rooms, column });
         (Answer::Done, held)
     }

@@ -304,7 +304,7 @@ fn bench_6_to_10(t: &mut Tally) {
 }
 
 /// The shelf list by the original's builder and its own listing.
-fn their_shelflist(input: &[u8]) -> String {
+pub fn their_shelflist(input: &[u8]) -> String {
     let mut b = BinaryViewBuilder::new();
     for line in input.split(|c| *c == b'\n').filter(|l| !l.is_empty()) {
         match line.strip_prefix(b"code=") {

@@ -1,6 +1,6 @@
 //! A script answered by original and model side by side.
 
-use crate::answer::{Answer, Engine};
+use crate::answer::{Answer, Engine, Held};
 use crate::by_model::ByModel;
 use crate::by_original::ByOriginal;
 use crate::script::{Call, line_of};
@@ -20,46 +20,61 @@ pub struct Tally {
     pub states: u64,
 }
 
+/// How the answers of original and model stand to each other.
+#[derive(Clone, Copy, Debug, PartialEq, Eq)]
+pub enum Verdict {
+    Same,
+    SameRefusal,
+    Unasked,
+    Beyond,
+    Differ,
+}
+
+/// The verdict on two answers.
+pub fn verdict(theirs: &Answer, ours: &Answer) -> Verdict {
+    match (theirs, ours) {
+        (Answer::Beyond, _) => Verdict::Beyond,
+        (Answer::Unasked, Answer::Refused(..)) => Verdict::Unasked,
+        (Answer::Refused(a, ..), Answer::Refused(b, ..)) if a == b => Verdict::SameRefusal,
+        (a, b) if a == b => Verdict::Same,
+        _ => Verdict::Differ,
+    }
+}
+
+/// Whether what is held afterwards differs, where both say it.
+pub fn states_differ(theirs: &Option<Held>, ours: &Option<Held>) -> bool {
+    matches!((theirs, ours), (Some(a), Some(b)) if a != b)
+}
+
 /// Runs the script. A difference is answered as a text with the lines up to it.
 pub fn compare(script: &[Call], tally: &mut Tally) -> Result<(), String> {
     let (mut original, mut model) = (ByOriginal::default(), ByModel::default());
     for (k, call) in script.iter().enumerate() {
         let (theirs, their_state) = original.call(call);
         let (ours, our_state) = model.call(call);
+        let verdict = verdict(&theirs, &ours);
         tally.calls += 1;
-        let agree = match (&theirs, &ours) {
-            (Answer::Beyond, _) => {
+        match verdict {
+            Verdict::Beyond => {
                 tally.beyond += 1;
                 continue;
             }
-            (Answer::Unasked, Answer::Refused(..)) => {
-                tally.unasked += 1;
-                true
-            }
-            (Answer::Refused(a, ..), Answer::Refused(b, ..)) => {
+            Verdict::Unasked => tally.unasked += 1,
+            Verdict::SameRefusal => {
                 tally.answers += 1;
                 tally.refusals += 1;
-                a == b
             }
-            (a, b) => {
-                tally.answers += 1;
-                a == b
-            }
-        };
-        let states = match (&their_state, &our_state) {
-            (Some(a), Some(b)) => {
-                tally.states += 1;
-                a == b
-            }
-            _ => true,
-        };
-        if !agree || !states {
+            Verdict::Same | Verdict::Differ => tally.answers += 1,
+        }
+        tally.states += (their_state.is_some() && our_state.is_some()) as u64;
+        let states = states_differ(&their_state, &our_state);
+        if verdict == Verdict::Differ || states {
             let lines: Vec<String> = script[..=k].iter().map(line_of).collect();
             let mut text = format!(
                 "{}\n# original: {theirs}\n# model: {ours}\n",
                 lines.join("\n")
             );
-            if !states {
+            if states {
                 text += &format!("# original holds\n{}", their_state.unwrap());
                 text += &format!("# model holds\n{}", our_state.unwrap());
             }

@@ -37,6 +37,8 @@ pub struct Generator {
     kinds: Vec<Kind>,
     columns: Vec<Option<Held>>,
     column_kinds: Vec<Kind>,
+    /// Columns that there are; of those whose numbers don't fit nothing is held.
+    there: Vec<bool>,
     pool: Vec<Vec<u8>>,
     large: bool,
     /// The model's answer to the last call.
@@ -45,7 +47,7 @@ pub struct Generator {
 
 /// A script of about so many calls.
 pub fn script(seed: u64, whom: For, calls: usize) -> Vec<Call> {
-    let mut g = Generator::new(seed, whom);
+    let mut g = Generator::new(seed, whom, true);
     for b in 0..BUILDERS as usize {
         g.start(b);
     }
@@ -57,8 +59,7 @@ pub fn script(seed: u64, whom: For, calls: usize) -> Vec<Call> {
 
 /// What a column of so many rows holds, made by value, null, block and view calls under random settings.
 pub fn values_of(seed: u64, rows: usize) -> (Held, Kind) {
-    let mut g = Generator::new(seed, For::Both);
-    g.large = false;
+    let mut g = Generator::new(seed, For::Both, false);
     g.start(0);
     while g.builders[0].as_ref().map_or(0, |h| h.views.len()) < rows {
         match g.random.below(8) {
@@ -84,8 +85,7 @@ pub fn values_of(seed: u64, rows: usize) -> (Held, Kind) {
 /// A script of calls on builder 0 over buffers of these sizes. Each column that is appended is spelled out before. For
 /// original and model nothing is refused for want of room.
 pub fn building(seed: u64, whom: For, sizes: Sizes, calls: usize) -> Vec<Call> {
-    let mut g = Generator::new(seed, whom);
-    g.large = false;
+    let mut g = Generator::new(seed, whom, false);
     let (kind, growth, merge) = (g.kind(), g.growth(), g.merge());
     g.kinds[0] = kind;
     g.emit(Call::Start(0, kind, growth, merge, sizes));
@@ -144,9 +144,10 @@ impl Generator {
         self.emit(Call::Append(0, 2));
     }
 
-    fn new(seed: u64, whom: For) -> Self {
+    /// `large`: one in 25 has values around the first sizes of the doubling.
+    fn new(seed: u64, whom: For, large: bool) -> Self {
         let mut random = Random::new(seed);
-        let large = random.once_in(25);
+        let large = large && random.once_in(25);
         let mut g = Generator {
             random,
             whom,
@@ -156,6 +157,7 @@ impl Generator {
             kinds: vec![Kind::Binary; BUILDERS as usize],
             columns: vec![None; COLUMNS as usize],
             column_kinds: vec![Kind::Binary; COLUMNS as usize],
+            there: vec![false; COLUMNS as usize],
             pool: vec![],
             large,
             answer: Answer::Done,
@@ -172,7 +174,7 @@ impl Generator {
     fn length(&mut self) -> u64 {
         match self.random.below(8) {
             0 => self.random.below(40),
-            1 if self.large => *self.random.pick(&LARGE),
+            1 | 2 if self.large => *self.random.pick(&LARGE),
             _ => *self.random.pick(&LENGTHS),
         }
     }
@@ -265,6 +267,7 @@ impl Generator {
     fn growth(&mut self) -> Growth {
         match self.random.below(3) {
             0 => Growth::Doubling(8192),
+            1 if self.large => Growth::Doubling(8192),
             1 => Growth::Fixed(1 + self.random.below(70)),
             _ => Growth::Fixed(*self.random.pick(&FIXED)),
         }
@@ -283,7 +286,7 @@ impl Generator {
         if !self.model_alone() || self.random.once_in(3) {
             return Sizes {
                 views: 16 * 4096,
-                data: 1 << 22,
+                data: if self.large { 1 << 24 } else { 1 << 22 },
                 table: 4096,
                 map: 512,
                 merge: 4096,
@@ -365,6 +368,19 @@ impl Generator {
     fn emit(&mut self, call: Call) {
         let (answer, held) = self.model.call(&call);
         let refused = matches!(answer, Answer::Refused(..));
+        match &call {
+            Call::Finish(_, d)
+            | Call::Copy(_, d)
+            | Call::Compact(_, _, d, _)
+            | Call::Slice(_, _, _, d)
+            | Call::Offsets(d, ..)
+            | Call::Raw(d, _)
+                if !refused =>
+            {
+                self.there[*d] = true
+            }
+            _ => (),
+        }
         self.answer = answer;
         match &call {
             Call::Start(b, ..)
@@ -416,9 +432,7 @@ impl Generator {
 
     /// A column that there is, if there is one.
     fn some_column(&mut self) -> usize {
-        let there: Vec<usize> = (0..self.columns.len())
-            .filter(|c| self.columns[*c].is_some())
-            .collect();
+        let there: Vec<usize> = (0..self.there.len()).filter(|c| self.there[*c]).collect();
         if there.is_empty() {
             0
         } else {
@@ -427,11 +441,12 @@ impl Generator {
     }
 
     fn rows_of(&self, c: usize) -> usize {
-        self.columns[c].as_ref().map_or(0, |h| h.views.len())
+        let held = self.columns[c].as_ref();
+        held.map_or(if self.there[c] { 9 } else { 0 }, |h| h.views.len())
     }
 
     fn step(&mut self) {
-        if self.columns.iter().all(|c| c.is_none()) || self.random.once_in(2) {
+        if !self.there.contains(&true) || self.random.once_in(2) {
             self.build();
         } else {
             self.ask();
@@ -443,7 +458,11 @@ impl Generator {
         let rows = self.builders[b].as_ref().map_or(0, |h| h.views.len());
         if rows > ENOUGH {
             let c = self.column();
-            return self.emit(Call::Finish(b, c));
+            self.emit(Call::Finish(b, c));
+            if matches!(self.answer, Answer::Refused(..)) {
+                self.start(b);
+            }
+            return;
         }
         match self.random.below(24) {
             0..=9 => {
@@ -480,11 +499,11 @@ impl Generator {
                 let row = self.row(rows);
                 self.emit(Call::Get(b, row))
             }
-            21 => {
+            21 if rows > 3 || self.random.once_in(4) => {
                 let c = self.column();
                 self.emit(Call::Finish(b, c))
             }
-            22 => {
+            22 if rows > 3 || self.random.once_in(4) => {
                 let c = self.column();
                 self.emit(Call::Copy(b, c))
             }
@@ -502,6 +521,10 @@ impl Generator {
                 .map(|b| b.as_ref().map_or(0, |b| b.len() as u64))
                 .collect()
         });
+        if lengths.is_empty() && !self.random.once_in(4) {
+            let bytes = self.value();
+            return self.emit(Call::Block(b, bytes));
+        }
         let block = self.row(lengths.len());
         let len = *lengths.get(block as usize).unwrap_or(&20);
         let offset = if self.random.once_in(2) {
@@ -589,7 +612,7 @@ impl Generator {
         });
         let rows = self.rows_of(c) as u64;
         let maximum = maximum(&mut self.random, &lengths);
-        let bytes = lengths.iter().sum::<u64>().min(1 << 22);
+        let bytes = lengths.iter().sum::<u64>().min(1 << 24);
         let sizes = self.output(rows, lengths.len() as u64 + 1, bytes);
         self.emit(Call::Compact(c, maximum, d, sizes));
     }
@@ -650,6 +673,10 @@ impl Generator {
             damage(&mut self.random, &mut raw, self.whom);
         }
         self.emit(Call::Raw(d, raw));
+        if self.random.once_in(2) {
+            let to = self.column();
+            self.compact(d, to);
+        }
     }
 }
 
@@ -679,8 +706,7 @@ pub fn maximum(random: &mut Random, lengths: &[u64]) -> u64 {
 
 /// Offsets, bytes and perhaps a map, mostly lawful.
 pub fn offset_source(seed: u64) -> (Vec<i32>, Vec<u8>, Option<Vec<u8>>) {
-    let mut g = Generator::new(seed, For::Both);
-    g.large = false;
+    let mut g = Generator::new(seed, For::Both, false);
     g.source()
 }
 

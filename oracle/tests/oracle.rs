@@ -44,7 +44,7 @@ fn the_same_seed_gives_the_same_script() {
 #[test]
 fn the_model_is_total() {
     let mut given = [0u64; 14];
-    for seed in 0..400 {
+    for seed in 0..150 {
         let mut model = ByModel::default();
         model.watch = true;
         for call in script(seed, For::Model, 200) {

@@ -1,1 +1,3 @@
 pub mod Reading
+pub mod Walk
+pub mod ReadingLaws

@@ -2,7 +2,7 @@
 //! the same bytes.
 
 use oracle::by_original::quiet;
-use oracle::lists::{building, leaves, outputs, reading};
+use oracle::lists::{building, leaves, outputs, reading, shelf};
 use std::path::Path;
 use std::process::exit;
 
@@ -24,6 +24,7 @@ fn main() {
         ("building.bin", building::building(seed)),
         ("compaction.bin", outputs::compaction(seed)),
         ("offsets.bin", outputs::offsets(seed)),
+        ("shelf.bin", shelf::shelf(seed)),
     ];
     for (name, bytes) in lists {
         std::fs::write(Path::new(folder).join(name), &bytes).unwrap();

@@ -1,9 +1,10 @@
 //! Sequences of calls on one builder.
 
 use super::{FILL, MAX_BLOCKS, MAX_BYTES, MAX_MAP, buffers, head, kind, part_words, put};
-use crate::answer::{Answer, Engine, Held};
+use crate::answer::{Answer, Engine};
 use crate::by_model::ByModel;
 use crate::by_original::ByOriginal;
+use crate::compare::{Verdict, states_differ, verdict};
 use crate::generate::{For, building as script};
 use crate::random::Random;
 use crate::script::{Call, Raw, Sizes};
@@ -112,21 +113,6 @@ fn column_words(call: &Call, answer: &Answer, after: &ByModel) -> [u64; 3] {
     }
 }
 
-/// Panics where the original, asked the same, answers otherwise or holds something else.
-fn agree(call: &Call, theirs: (Answer, Option<Held>), ours: (&Answer, Option<Held>)) {
-    let answers = match (&theirs.0, ours.0) {
-        (Answer::Beyond, _) => return,
-        (Answer::Unasked, Answer::Refused(..)) => true,
-        (Answer::Refused(a, ..), Answer::Refused(b, ..)) => a == b,
-        (a, b) => a == b,
-    };
-    let states = match (&theirs.1, &ours.1) {
-        (Some(a), Some(b)) => a == b,
-        _ => true,
-    };
-    assert!(answers && states, "{call:?}: {} and {}", theirs.0, ours.0);
-}
-
 fn group(out: &mut Vec<u8>, script: &[Call], both: bool) {
     let mut model = ByModel::default();
     model.fill = FILL;
@@ -152,8 +138,11 @@ fn group(out: &mut Vec<u8>, script: &[Call], both: bool) {
             continue;
         };
         let (answer, held) = model.call(call);
-        if let Some(theirs) = theirs {
-            agree(call, theirs, (&answer, held));
+        if let Some((theirs, their_state)) = theirs {
+            let verdict = verdict(&theirs, &answer);
+            let differ = verdict != Verdict::Beyond && states_differ(&their_state, &held);
+            let agree = verdict != Verdict::Differ && !differ;
+            assert!(agree, "{call:?}: original {theirs}, model {answer}");
         }
         put(out, &words);
         put(out, &[bytes.len() as u64]);

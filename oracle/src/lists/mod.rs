@@ -4,6 +4,7 @@ pub mod building;
 pub mod leaves;
 pub mod outputs;
 pub mod reading;
+pub mod shelf;
 
 use crate::script::Raw;
 use model::{Buffer, Kind, Lent, Part};

@@ -564,6 +564,66 @@ fn differences_untrue(t: &mut Tally) {
     );
 }
 
+/// Buffers past every limit.
+fn wide_rooms() -> Rooms {
+    Rooms {
+        views: vec![0; 16 * 33_000],
+        data: vec![0; 20_000_000],
+        table: vec![(0, 0); 5_000],
+        map: vec![0; 5_000],
+        merge: vec![0; 33_000],
+    }
+}
+
+/// A builder and the original's, both given the same values until ours refuses one. How many were taken, the refusal,
+/// and whether both hold the same views.
+fn until_refused(fixed: u32, len: usize) -> (u64, u32, bool) {
+    let mut ours = Ours::binary(Growth::Fixed(fixed as u64));
+    ours.rooms = wide_rooms();
+    let mut b = BinaryViewBuilder::with_capacity(33_000).with_fixed_block_size(fixed);
+    let refusal = loop {
+        let mut value = vec![0u8; len];
+        let row = ours.s.rows as u32;
+        value[..4.min(len)].copy_from_slice(&row.to_le_bytes()[..4.min(len)]);
+        match ours.value(&value) {
+            Ok(()) => b.append_value(value),
+            Err(r) => break r.number,
+        }
+    };
+    let array = b.finish();
+    let same = (0..array.len()).all(|r| array.views()[r].to_le_bytes() == *ours.view(r));
+    (
+        ours.s.rows,
+        refusal,
+        same && ours.s.rows == array.len() as u64,
+    )
+}
+
+fn limits(t: &mut Tally) {
+    t.that(
+        "limits: 32,767 rows, then 5",
+        until_refused(1_000, 4) == (32_767, 5, true),
+    );
+    t.that(
+        "limits: 4,096 blocks, then 6",
+        until_refused(13, 13) == (4_096, 6, true),
+    );
+    t.that(
+        "limits: 16,777,216 bytes, then 7",
+        until_refused(65_536, 65_536) == (256, 7, true),
+    );
+    let mut ours = Ours::binary(Growth::Fixed(1));
+    ours.rooms = wide_rooms();
+    let whole = vec![7; 16_777_216];
+    let taken = ours.value(&whole).is_ok() && ours.s.open == 16_777_216;
+    t.that("limits: one value of 16,777,216 bytes", taken);
+    let short = ours.value(b"short").is_ok();
+    t.that(
+        "limits: full of bytes, a short value is taken, a long one is 7",
+        short && ours.value(&[7; 13]) == Err(Refusal::new(7)),
+    );
+}
+
 fn block_sizes(t: &mut Tally) {
     let mut b = BinaryViewBuilder::with_capacity(8);
     let mut sizes = vec![];
@@ -604,5 +664,6 @@ pub fn all() -> Tally {
     differences_columns(&mut t);
     differences_untrue(&mut t);
     block_sizes(&mut t);
+    limits(&mut t);
     t
 }

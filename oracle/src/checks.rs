@@ -117,6 +117,49 @@ fn triples(of: &[usize]) -> Vec<[usize; 3]> {
     all
 }
 
+/// All values of up to three bytes out of 0, 1 and 255, and each with bytes before it that make it 12, 13 or 16 long.
+fn many_values() -> Vec<Vec<u8>> {
+    let mut all: Vec<Vec<u8>> = vec![vec![]];
+    for n in 0..3 {
+        let longest: Vec<Vec<u8>> = all.iter().filter(|v| v.len() == n).cloned().collect();
+        for v in longest {
+            all.extend([0, 1, 255].map(|b| [&v[..], &[b]].concat()));
+        }
+    }
+    let padded = |v: &Vec<u8>, n: usize| [&vec![0; n - v.len()][..], v].concat();
+    let long = all.iter().flat_map(|v| [12, 13, 16].map(|n| padded(v, n)));
+    let mut both: Vec<Vec<u8>> = all.iter().cloned().chain(long).collect();
+    both.extend(all.iter().map(|v| [&v[..], &[0; 12]].concat()));
+    both
+}
+
+/// Every pair of many values compared: original, model and the order of bytes agree.
+fn many_orders(t: &mut Tally) {
+    let values = many_values();
+    let array = theirs(&values, Some(100));
+    let mut ours = Ours::binary(Growth::Fixed(40));
+    ours.rooms = wide_rooms();
+    values.iter().for_each(|v| ours.value(v).unwrap());
+    let (_, c) = model::finish(&ours.s, &mut ours.rooms).unwrap();
+    let lent = ours.rooms.lent();
+    let same = |i: usize, j: usize| {
+        // SAFETY: both rows are there and valid.
+        let theirs = unsafe { BinaryViewArray::compare_unchecked(&array, i, &array, j) };
+        let ours = match model::compare(&lent, &c, i as u64, &lent, &c, j as u64).unwrap() {
+            model::Order::Less => Ordering::Less,
+            model::Order::Equal => Ordering::Equal,
+            model::Order::Greater => Ordering::Greater,
+        };
+        theirs == ours && ours == values[i].cmp(&values[j])
+    };
+    let n = values.len();
+    let all = (0..n).all(|i| (0..n).all(|j| same(i, j)));
+    t.that(
+        &format!("comparison of {n} times {n} values, original, model and the order of bytes"),
+        all,
+    );
+}
+
 /// Every short list at every maximum, and every fixed block size: original and model agree.
 fn small_lists(t: &mut Tally) {
     let all = triples(&[0, 12, 13, 14, 26, 31]);
@@ -659,6 +702,7 @@ pub fn all() -> Tally {
     bench_1_to_5(&mut t);
     bench_6_to_10(&mut t);
     small_lists(&mut t);
+    many_orders(&mut t);
     shelf(&mut t);
     differences_builder(&mut t);
     differences_columns(&mut t);

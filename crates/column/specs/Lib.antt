@@ -2,3 +2,8 @@ pub mod Lent
 pub mod Meaning
 pub mod Truth
 pub mod Laid
+pub mod Room
+pub mod FitLaws
+pub mod ReachLaws
+pub mod TruthLaws
+pub mod LowestLaws

@@ -23,6 +23,15 @@ bit-is map row = by (eqb (bitAt map row) 1) refl
     by true e = eqb-true (bitAt map row) 1 e
     by false e = let n = eqb-false (bitAt map row) 1 e in omega (arith, bit-lt map row)
 
+-- a column's row by its map, and without one
+pub valid-map : (map : List ℕ) (row : ℕ) → validAt map true row ≡ isValid map row
+unfolding validAt
+valid-map map row = refl
+
+pub valid-none : (map : List ℕ) (row : ℕ) → validAt map false row ≡ true
+unfolding validAt
+valid-none map row = refl
+
 -- a run of rows is counted in two parts
 pub count-add : (map : List ℕ) (first a b : ℕ) → countValid map first (a + b) ≡ countValid map first a + countValid map (first + a) b
 unfolding countValid

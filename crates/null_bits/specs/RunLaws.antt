@@ -5,13 +5,13 @@ use mathlib.Core.Bool.{Bool, true, false}
 use mathlib.Core.List.{List}
 use mathlib.Core.Logic.{by-cases}
 use Prim.Native.Nat.{ℕ, zero, suc, _+_, _*_, _/_, _≤_, _<_}
-use native.Mathlib.Nat.{add-zero, add-suc, add-assoc}
+use native.Mathlib.Nat.{add-zero, add-suc, add-assoc, zero-add}
 use native.Mathlib.Decide.{ℕ-discrete}
 use native.Mathlib.Omega.{arith}
 use lib.ListN.{length}
-use Rattle.null_bits.specs.Bits.{bitAt, isValid, validAt, countValid, putBit, bitOf}
+use Rattle.null_bits.specs.Bits.{isValid, validAt, nullOf, countValid, countNulls, putBit}
 use Rattle.null_bits.specs.Runs.{putBits, putRun, copyBits, copyColumn}
-use Rattle.null_bits.specs.CountLaws.{bit-is}
+use Rattle.null_bits.specs.CountLaws.{bit-is, valid-map}
 use Rattle.null_bits.specs.PutLaws.{length-put, valid-put-same, valid-put-before, count-put, bit-put-same}
 
 pub length-bits : (map : List ℕ) (first : ℕ) (bits : ℕ → Bool) (n : ℕ) → length (putBits map first bits n) ≡ length map
@@ -67,3 +67,29 @@ count-copied map first src from (suc n) h =
     let was : List ℕ = copyBits map first src from n in
     let room : (first + n) / 8 < length was = rw (length-bits map first (λ k. isValid src (from + k)) n) (omega arith) in
     rw (count-put was (first + n) first n (isValid src (from + n)) room (omega arith), bit-put-same was (first + n) (isValid src (from + n)) room, ← bit-is src (from + n), count-copied map first src from n (omega arith))
+
+-- a column's rows that were copied read, and count their nulls, as their source
+pub column-read : (map : List ℕ) (first : ℕ) (src : List ℕ) (mapped : Bool) (from n k : ℕ) → first + n ≤ 8 * length map → k < n
+    → isValid (copyColumn map first src mapped from n) (first + k) ≡ validAt src mapped (from + k)
+column-read map first src mapped from n k h l = bits-read map first (λ j. validAt src mapped (from + j)) n k h l
+
+pub nulls-bits : (map : List ℕ) (first : ℕ) (src : List ℕ) (mapped : Bool) (from n : ℕ) → ((k : ℕ) → k < n → isValid map (first + k) ≡ validAt src mapped (from + k))
+    → countNulls map true first n ≡ countNulls src mapped from n
+unfolding countNulls
+nulls-bits map first src mapped from zero same = refl
+nulls-bits map first src mapped from (suc n) same =
+    let last : validAt map true (first + n) ≡ validAt src mapped (from + n) = valid-map map (first + n) ∙ same n (omega arith) in
+    rw (nulls-bits map first src mapped from n (λ k l. same k (omega arith)), last)
+
+pub nulls-copied : (map : List ℕ) (first : ℕ) (src : List ℕ) (mapped : Bool) (from n : ℕ) → first + n ≤ 8 * length map
+    → countNulls (copyColumn map first src mapped from n) true first n ≡ countNulls src mapped from n
+nulls-copied map first src mapped from n h = nulls-bits (copyColumn map first src mapped from n) first src mapped from n (λ k l. column-read map first src mapped from n k h l)
+
+-- a row appended counts as null or not, and the rows before it as before
+pub nulls-append : (map : List ℕ) (row : ℕ) (v : Bool) → row / 8 < length map → countNulls (putBit map row v) true 0 (suc row) ≡ countNulls map true 0 row + nullOf v
+unfolding countNulls
+nulls-append map row v h =
+    let now : validAt (putBit map row v) true (0 + row) ≡ v = rw zero-add (valid-map (putBit map row v) row ∙ valid-put-same map row v h) in
+    let before : countNulls (putBit map row v) true 0 row ≡ countNulls map true 0 row =
+    nulls-bits (putBit map row v) 0 map true 0 row (λ k l. rw (zero-add k) (valid-put-before map row k v h l ∙ sym (valid-map map k))) in
+    rw (now, before)

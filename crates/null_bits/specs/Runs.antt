@@ -2,13 +2,18 @@
 -- Assumes nothing.
 use mathlib.Core.Bool.{Bool}
 use mathlib.Core.List.{List}
-use Prim.Native.Nat.{ℕ, zero, suc, _+_}
+use Prim.Native.Nat.{ℕ, zero, suc, _+_, _/_, _%_, _^_}
+use lib.Dec.{eqb}
 use Rattle.null_bits.specs.Bits.{putBit, isValid, validAt}
 
 -- the map with the bits of the rows first, first + 1, .. (n of them) written, that of row first + k as `bits k` says
 unfoldable pub putBits : List ℕ → ℕ → (ℕ → Bool) → ℕ → List ℕ
 putBits map first bits zero = map
 putBits map first bits (suc n) = putBit (putBits map first bits n) (first + n) (bits n)
+
+-- bit k of a number
+unfoldable pub digit : ℕ → ℕ → Bool
+digit x k = eqb (x / 2 ^ k % 2) 1
 
 -- one bit for each of the rows
 abbrev pub putRun : List ℕ → ℕ → ℕ → Bool → List ℕ

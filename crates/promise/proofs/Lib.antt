@@ -4,3 +4,9 @@ pub mod Steps
 pub mod Appends
 pub mod Finishing
 pub mod Promised
+pub mod Computed
+pub mod Bench
+pub mod Merging
+pub mod Merged
+pub mod Wrong
+pub mod Defined

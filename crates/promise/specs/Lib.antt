@@ -1,2 +1,5 @@
 pub mod Calls
 pub mod Made
+pub mod Bench
+pub mod Merged
+pub mod Library

@@ -7,10 +7,10 @@ use native.Mathlib.Nat.{add-zero, zero-add, mul-suc, suc-mul, add-comm}
 use native.Mathlib.Numerals.{add-one}
 use native.Mathlib.Omega.{arith}
 use borrow.Author.Count.{below-more}
-use borrow.Author.Tests.{leb-true, leb-false}
+use borrow.Author.Tests.{leb-true, leb-false, ltb-true, ltb-false}
 use lib.Arith.{digits-lt}
 use lib.Bits.{bitAnd, bitOr, or-add-and, and-le-l, and-le-r, or-lt, and-block, or-block, and-shr}
-use lib.Dec.{leb, lit<}
+use lib.Dec.{leb, ltb, lit<}
 use lib.ListN.{length, getD, drop, length-drop}
 use lib.Pow.{pow-add, pow-pos}
 use lib.Seq.{drop-cons, drop-drop, drop-length}
@@ -125,6 +125,16 @@ ascii-run s i zero h a = rw (add-zero i) (omega arith)
 ascii-run s i (suc n) h a =
     let at : i + n + 1 ≡ i + suc n = omega arith in
     ascii-run s i n (omega arith) (λ k l. a k (omega arith)) ∙ rw (ascii-one s (i + n) (omega arith) (a n (omega arith)), at) (omega arith)
+
+-- a run that begins with an ASCII byte and ends at another byte isn't empty
+pub moved : (s : List ℕ) (at i : ℕ) → at ≤ i → getD s at 0 ≤ 127 → 127 < getD s i 0 → at < i
+moved s at i l a b = by (ltb at i) refl
+  where
+    by : (t : Bool) → ltb at i ≡ t → at < i
+    by true e = ltb-true at i e
+    by false e =
+        let same : at ≡ i = omega (arith, ltb-false at i e) in
+        absurd (omega (arith, ap (λ (k : ℕ). getD s k 0) same))
 
 -- the high bit of each of n bytes
 abbrev mask : ℕ → ℕ

@@ -1,7 +1,7 @@
 // Well-formed UTF-8, and where the first ill-formed sequence begins.
 ghost use mathlib.Core.Path.{_≡_};
 ghost use Prim.Native.Nat.{_+_, _≤_, _<_};
-ghost use lib.ListN.{length, drop};
+ghost use lib.ListN.{length, drop, getD};
 ghost use Rattle.utf8.specs.Table.{table, led, ledBy, within, front, firstBad, wellFormed, _‥_};
 ghost use Rattle.utf8.specs.Lead.{tails, Passed};
 
@@ -117,10 +117,10 @@ fn ascii_words(s: &[u8], at: usize) -> usize
     i
 }
 
-// Where the run of ASCII bytes at `at` ends.
+// Where the run of ASCII bytes that begins at `at` ends.
 fn ascii(s: &[u8], at: usize) -> usize
-    requires { ⌜ at ≤ length (now s) ⌝ }
-    ensures { λ r. ⌜ Passed (now (s .entry)) at r ⌝ }
+    requires { ⌜ (at < length (now s)) × (getD (now s) at 0 ≤ 127) ⌝ }
+    ensures { λ r. ⌜ Passed (now (s .entry)) at r × (at < r) ⌝ }
 {
     let mut i = ascii_words(s, at);
     while i < s.len() {
@@ -139,7 +139,7 @@ pub fn first_bad(s: &[u8]) -> usize
     let mut i = 0;
     while i < s.len() {
         if s[i] < 128 {
-            i = ascii(s, i + 1);
+            i = ascii(s, i);
         } else {
             let n = seq(s, i);
             if n == 0 {

@@ -14,7 +14,8 @@ use Rattle.words.specs.Words.{Bytes, wordAt, enc, dec, pad}
 use Rattle.words.specs.WordLaws.{word-lt}
 use Rattle.words.specs.ListLaws.{length-enc, dec-enc, length-pad, take-pad, pad-short, take-length-pad, word-dec, word-part, bytes-part}
 use Rattle.bounds.specs.Bounds.{byteLimit}
-use Rattle.bounds.specs.Refusals.{refuse}
+use Rattle.bounds.specs.Refusals.{refuse, ifAccepted}
+use Rattle.bounds.specs.declared.Why.{Why}
 use Rattle.bounds.specs.declared.Why.the-variants.{Accepted, Refused}
 use Rattle.bounds.specs.declared.Refusal.the-variants.{TooLong}
 use Rattle.views.specs.declared.Made.{Made}
@@ -217,3 +218,11 @@ module _ (x : List ℕ) (b o : ℕ) where
   pub made-refused : byteLimit < length x → makeOf x b o ≡ record { why = Refused TooLong; view = zeroView }
   unfolding makeOf viewWhy refuse
   made-refused h = rw (lt-ltb byteLimit (length x) h)
+
+  pub length-made : length (makeOf x b o .view) ≡ viewSize
+  unfolding makeOf zeroView
+  length-made = by (viewWhy x)
+    where
+      by : (w : Why) → length (ifAccepted w (makeView x b o) zeroView) ≡ viewSize
+      by Accepted = length-make x b o
+      by (Refused r) = length-pad 16 []

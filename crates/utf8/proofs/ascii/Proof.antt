@@ -4,7 +4,7 @@ use native.Mathlib.Omega.{arith}
 use denote.Ref.{now}
 use lib.ListN.{length, drop}
 use Rattle.utf8.specs.Lead.{Passed}
-use Rattle.utf8.proofs.Laws.{ascii-one}
+use Rattle.utf8.proofs.Laws.{ascii-one, moved}
 use Rattle.utf8.proofs.ascii.Statement.{statement}
 use Rattle.utf8.proofs.ascii.Tie as tie
 
@@ -36,10 +36,13 @@ loop-again c =
     record { on = omega arith; in-text = omega arith; same = omega (arith, ascii-one (now (s .s)) (l .i) (omega arith) (omega arith)) }
 
 returns : tie.Need-returns Inv-loop μ-loop
-returns c = c .before .loop .inv
+returns c = (c .before .loop .inv, omega arith)
 
 returns-2 : tie.Need-returns-2 Inv-loop μ-loop
-returns-2 c = c .before .before .before .loop .inv
+returns-2 c =
+    let s = c .before .before .before .before .before .before .args in
+    let l = c .before .before .before .loop in
+    (l .inv, moved (now (s .s)) (s .at) (l .i) (omega arith) (omega arith) (c .if1 .taken))
 
 pub ascii-spec : {M : Type 1} → statement M
 ascii-spec =

@@ -22,9 +22,6 @@ loop-holds c = search needs
 shared-slice-read-if1 : tie.Need-shared-slice-read-if1 Inv-loop μ-loop
 shared-slice-read-if1 c = search needs
 
-add-ascii : tie.Need-add-ascii Inv-loop μ-loop
-add-ascii c = search needs
-
 ascii-requires : tie.Need-ascii-requires Inv-loop μ-loop
 ascii-requires c κs = search needs
 
@@ -32,10 +29,7 @@ loop-less : tie.Need-loop-less Inv-loop μ-loop
 loop-less c = search needs
 
 loop-again : tie.Need-loop-again Inv-loop μ-loop
-loop-again c =
-    let s = c .before .before .before .before .before .before .args in
-    let l = c .before .before .before .before .loop in
-    (search needs, omega (arith, ascii-one (now (s .s)) (l .i) (omega arith) (omega arith)))
+loop-again c = omega arith
 
 seq-requires : tie.Need-seq-requires Inv-loop μ-loop
 seq-requires c κs = search needs
@@ -72,7 +66,6 @@ first-bad-spec =
     μ-loop
     loop-holds
     shared-slice-read-if1
-    add-ascii
     ascii-requires
     loop-less
     loop-again

@@ -1,8 +1,11 @@
-use Rattle.null_bits.specs.Runs.{putBits, copyBits}
+use mathlib.Core.Path.{ap}
+use Rattle.null_bits.proofs.ByteLaws.{next-byte, run-rest}
+use Rattle.null_bits.specs.Runs.{putBits, digit}
+use Rattle.null_bits.specs.Bits.{isValid}
 use lib.ListN.{length}
-use native.Mathlib.Numerals.{add-one}
-use Prim.Native.Nat.{_≤_, _-_}
-use mathlib.Core.Path.{_≡_, refl, _∙_}
+use native.Mathlib.Nat.{add-assoc}
+use Prim.Native.Nat.{ℕ, _≤_, _-_, _+_, _<_}
+use mathlib.Core.Path.{_≡_, refl, sym, _∙_}
 use denote.Ref.{now}
 use native.Mathlib.Omega.{arith}
 use borrow.Author.Needs.{needs}
@@ -10,60 +13,87 @@ use Rattle.null_bits.proofs.runs.copy_bits.Statement.{statement}
 use Rattle.null_bits.proofs.runs.copy_bits.Tie as tie
 use Rattle.null_bits.proofs.runs.copy_bits.Reads as reads
 use Rattle.null_bits.proofs.runs.copy_bits.Lts as lts
-use Rattle.null_bits.proofs.is_valid.Reads as is-valid-reads
-use Rattle.null_bits.proofs.put_bit.Reads as put-bit-reads
+use Rattle.null_bits.proofs.runs.byte_at.Reads as byte-at-reads
+use Rattle.null_bits.proofs.runs.copy_few.Reads as copy-few-reads
+use Rattle.null_bits.proofs.runs.put_byte.Reads as put-byte-reads
 
 abbrev Inv-loop : tie.InvT-loop
-Inv-loop map₀ first src from rows k₀ map k = (k ≤ rows) × (length map ≡ length map₀) × (map ≡ copyBits map₀ first src from k)
+Inv-loop map₀ first src from rows k₀ map k = (k ≤ rows) × (length map ≡ length map₀) × (map ≡ putBits map₀ first (λ j. isValid src (from + j)) k)
 
 abbrev μ-loop : tie.MeasureT-loop
 μ-loop map₀ first src from rows k₀ map k = rows - k
 
--- src/runs.rt:25:5
+-- src/runs.rt:94:5
 loop-holds : tie.Need-loop-holds Inv-loop μ-loop
 unfolding putBits
-loop-holds c = (omega arith, refl, refl)
+loop-holds c = (search needs, refl, refl)
 
--- src/runs.rt:26:29
-add-put-bit : tie.Need-add-put-bit Inv-loop μ-loop
-add-put-bit c = search needs
+-- src/runs.rt:94:16
+sub-loop : tie.Need-sub-loop Inv-loop μ-loop
+sub-loop c = search needs
 
--- src/runs.rt:26:61
-add-is-valid : tie.Need-add-is-valid Inv-loop μ-loop
-add-is-valid c = search needs
+-- src/runs.rt:95:23
+add-put-byte : tie.Need-add-put-byte Inv-loop μ-loop
+add-put-byte c = search needs
 
--- src/runs.rt:26:40
-is-valid-requires : tie.Need-is-valid-requires Inv-loop μ-loop
-is-valid-requires c κs = search needs
+-- src/runs.rt:95:47
+add-byte-at : tie.Need-add-byte-at Inv-loop μ-loop
+add-byte-at c = search needs
 
--- src/runs.rt:26:9
-put-bit-requires : tie.Need-put-bit-requires Inv-loop μ-loop
-put-bit-requires c κs = search needs
+-- src/runs.rt:95:34
+byte-at-requires : tie.Need-byte-at-requires Inv-loop μ-loop
+byte-at-requires c κs = search needs
 
--- src/runs.rt:27:9
+-- src/runs.rt:95:9
+put-byte-requires : tie.Need-put-byte-requires Inv-loop μ-loop
+put-byte-requires c κs = search needs
+
+-- src/runs.rt:96:9
 add-k : tie.Need-add-k Inv-loop μ-loop
 add-k c = search needs
 
--- src/runs.rt:25:5
+-- src/runs.rt:94:5
 loop-less : tie.Need-loop-less Inv-loop μ-loop
 loop-less c = search needs
 
--- src/runs.rt:25:5
+-- src/runs.rt:94:5
 loop-again : tie.Need-loop-again Inv-loop μ-loop
-unfolding putBits
 loop-again c =
-    let l = c .before .before .before .before .before .before .loop in
-    (omega arith, c .before .before .put-bit .kept .0 ∙ l .inv .1, rw (add-one (l .k)) (c .before .before .put-bit .ensures ∙ rw (l .inv .2, c .before .before .before .is-valid .ensures)))
+    let s = c .before .before .before .before .before .before .before .before .before .args in
+    let l = c .before .before .before .before .before .before .loop in (
+      search needs,
+      c .before .before .put-byte .kept .0 ∙ l .inv .1,
+      next-byte (now (s .map)) (l .map) _ (s .first) (l .k) _ (λ j. isValid (now (s .src)) (s .from + j)) (l .inv .2) (c .before .before .put-byte .ensures)
+          (λ j h. c .before .before .before .byte-at .ensures .1 j h ∙ ap (isValid (now (s .src))) (add-assoc (s .from) (l .k) j)),
+    )
 
--- src/runs.rt:20:1
+-- src/runs.rt:98:19
+add-copy-few : tie.Need-add-copy-few Inv-loop μ-loop
+add-copy-few c = search needs
+
+-- src/runs.rt:98:35
+add-copy-few-2 : tie.Need-add-copy-few-2 Inv-loop μ-loop
+add-copy-few-2 c = search needs
+
+-- src/runs.rt:98:45
+sub-copy-few : tie.Need-sub-copy-few Inv-loop μ-loop
+sub-copy-few c = search needs
+
+-- src/runs.rt:98:5
+copy-few-requires : tie.Need-copy-few-requires Inv-loop μ-loop
+copy-few-requires c κs = search needs
+
+-- src/runs.rt:89:1
 same-length : tie.Need-same-length Inv-loop μ-loop
 same-length c = search needs
 
--- src/runs.rt:20:1
+-- src/runs.rt:89:1
 returns : tie.Need-returns Inv-loop μ-loop
 returns c =
-    let e : c .before .loop .k ≡ c .before .before .before .before .args .rows = omega arith in
-    rw (← e) (c .before .loop .inv .2)
+    let s = c .before .before .before .before .before .before .before .before .args in
+    let l = c .before .before .before .before .before .loop in
+    run-rest (now (s .map)) (l .map) _ (s .first) (l .k) (s .rows) (λ j. isValid (now (s .src)) (s .from + j)) (λ j. isValid (now (s .src)) (s .from + l .k + j)) (l .inv .0) (l .inv .2) (c .before .before .copy-few .ensures)
+    (λ j. ap (isValid (now (s .src))) (add-assoc (s .from) (l .k) j))
 
 pub copy-bits-spec : {M : Type 1} → statement M
 copy-bits-spec =
@@ -72,12 +102,17 @@ copy-bits-spec =
     Inv-loop
     μ-loop
     loop-holds
-    add-put-bit
-    add-is-valid
-    is-valid-requires
-    put-bit-requires
+    sub-loop
+    add-put-byte
+    add-byte-at
+    byte-at-requires
+    put-byte-requires
     add-k
     loop-less
     loop-again
+    add-copy-few
+    add-copy-few-2
+    sub-copy-few
+    copy-few-requires
     same-length
     returns)

@@ -1,0 +1,212 @@
+//! Times the proved leaves against Rust's std: each side does the same batch on the same input, rounds alternate, and a row gives the
+//! ratio of the best times and the median of the ratios of neighbouring rounds (below 1: ours is faster). Every batch's answer is held against std's before it is timed.
+//!
+//! `bench/run` builds the static library and runs this.
+
+use std::cmp::Ordering;
+use std::hint::black_box;
+use std::time::Instant;
+
+mod leaves {
+    mod raw {
+        extern "C" {
+            pub fn leaf_count_nulls(map: *const u8, len: usize, rows: usize, times: usize) -> u64;
+            pub fn leaf_copy_parts(src: *const u8, len: usize, dst: *mut u8, room: usize, n: usize);
+            pub fn leaf_count_less(bytes: *const u8, len: usize, ends: *const usize, count: usize) -> u64;
+            pub fn leaf_count_same(bytes: *const u8, len: usize, ends: *const usize, count: usize) -> u64;
+        }
+    }
+    pub fn count_nulls(map: &[u8], rows: usize, times: usize) -> u64 {
+        unsafe { raw::leaf_count_nulls(map.as_ptr(), map.len(), rows, times) }
+    }
+    pub fn copy_parts(src: &[u8], dst: &mut [u8], n: usize) {
+        unsafe { raw::leaf_copy_parts(src.as_ptr(), src.len(), dst.as_mut_ptr(), dst.len(), n) }
+    }
+    pub fn count_less(bytes: &[u8], ends: &[usize]) -> u64 {
+        unsafe { raw::leaf_count_less(bytes.as_ptr(), bytes.len(), ends.as_ptr(), ends.len()) }
+    }
+    pub fn count_same(bytes: &[u8], ends: &[usize]) -> u64 {
+        unsafe { raw::leaf_count_same(bytes.as_ptr(), bytes.len(), ends.as_ptr(), ends.len()) }
+    }
+}
+
+mod std_side {
+    use super::*;
+
+    /// Nulls of a run that may start and end inside a byte: ones of masked bytes and of words.
+    fn nulls(map: &[u8], first: usize, rows: usize) -> usize {
+        let (mut at, end) = (first, first + rows);
+        let mut ones = 0;
+        if at % 8 != 0 && at < end {
+            let take = (8 - at % 8).min(end - at);
+            ones += ((map[at / 8] >> (at % 8)) as u32 & ((1u32 << take) - 1)).count_ones() as usize;
+            at += take;
+        }
+        let whole = if at < end { &map[at / 8..end / 8] } else { &[] };
+        let mut words = whole.chunks_exact(8);
+        for w in &mut words {
+            ones += u64::from_le_bytes(w.try_into().unwrap()).count_ones() as usize;
+        }
+        for b in words.remainder() {
+            ones += b.count_ones() as usize;
+        }
+        if end % 8 != 0 && at < end {
+            ones += (map[end / 8] as u32 & ((1u32 << (end % 8)) - 1)).count_ones() as usize;
+        }
+        rows - ones
+    }
+
+    #[inline(never)]
+    pub fn count_nulls(map: &[u8], rows: usize, times: usize) -> u64 {
+        (0..times).map(|k| nulls(map, k % 64, rows) as u64).sum()
+    }
+
+    #[inline(never)]
+    pub fn copy_parts(src: &[u8], dst: &mut [u8], n: usize) {
+        for (s, d) in src.chunks_exact(n).zip(dst.chunks_exact_mut(n)) {
+            d.copy_from_slice(s);
+        }
+    }
+
+    #[inline(never)]
+    pub fn count_less(bytes: &[u8], ends: &[usize]) -> u64 {
+        ends.windows(3).map(|e| (bytes[e[0]..e[1]].cmp(&bytes[e[1]..e[2]]) == Ordering::Less) as u64).sum()
+    }
+
+    #[inline(never)]
+    pub fn count_same(bytes: &[u8], ends: &[usize]) -> u64 {
+        ends.windows(3).map(|e| (bytes[e[0]..e[1]] == bytes[e[1]..e[2]]) as u64).sum()
+    }
+}
+
+const ROUNDS: usize = 401;
+
+fn seconds(reps: usize, work: &mut dyn FnMut()) -> f64 {
+    let from = Instant::now();
+    for _ in 0..reps {
+        work();
+    }
+    from.elapsed().as_secs_f64()
+}
+
+fn median(mut times: Vec<f64>) -> f64 {
+    times.sort_by(f64::total_cmp);
+    times[times.len() / 2]
+}
+
+/// Alternates rounds of some 300 microseconds, too short to be often disturbed, and prints the row: the ratio of the best times, the median
+/// of the ratios of neighbouring rounds, and the best times. Answers whether the first is within the target.
+fn row(name: &str, target: f64, items: usize, ours: &mut dyn FnMut(), theirs: &mut dyn FnMut()) -> bool {
+    let mut reps = 1;
+    while seconds(reps, theirs) < 3e-4 {
+        reps *= 2;
+    }
+    let (mut a, mut b) = (Vec::new(), Vec::new());
+    for round in 0..ROUNDS {
+        if round % 2 == 0 {
+            a.push(seconds(reps, ours));
+            b.push(seconds(reps, theirs));
+        } else {
+            b.push(seconds(reps, theirs));
+            a.push(seconds(reps, ours));
+        }
+    }
+    let best = |t: &Vec<f64>| t.iter().copied().fold(f64::INFINITY, f64::min);
+    let (x, y) = (best(&a), best(&b));
+    let ratio = x / y;
+    let per = 1e9 / (reps * items) as f64;
+    let aim = if target > 0.0 { format!("{target:.1}") } else { "-".into() };
+    let middle = median(a.iter().zip(&b).map(|(a, b)| a / b).collect());
+    println!("| {name} | {ratio:.2} | {middle:.2} | {aim} | {:.2} | {:.2} |", x * per, y * per);
+    target == 0.0 || ratio <= target
+}
+
+/// A small generator, so that each run has the same input.
+struct Random(u64);
+
+impl Random {
+    fn next(&mut self) -> u64 {
+        self.0 ^= self.0 << 13;
+        self.0 ^= self.0 >> 7;
+        self.0 ^= self.0 << 17;
+        self.0
+    }
+    fn below(&mut self, n: usize) -> usize {
+        (self.next() >> 11) as usize % n
+    }
+    fn bytes(&mut self, n: usize) -> Vec<u8> {
+        (0..n).map(|_| self.next() as u8).collect()
+    }
+}
+
+/// Values end to end, and where each begins and the last ends.
+fn laid(values: &[Vec<u8>]) -> (Vec<u8>, Vec<usize>) {
+    let mut ends = vec![0];
+    let mut bytes = Vec::new();
+    for v in values {
+        bytes.extend_from_slice(v);
+        ends.push(bytes.len());
+    }
+    (bytes, ends)
+}
+
+fn counting(r: &mut Random) -> bool {
+    let map = r.bytes(4096 + 16);
+    let rows = 8 * 4096;
+    for rows in [0, 1, 7, 8, 9, 63, 64, 65, 1000, rows] {
+        assert_eq!(leaves::count_nulls(&map, rows, 64), std_side::count_nulls(&map, rows, 64), "{rows} rows");
+    }
+    row("count nulls over 4 KB", 1.1, 64, &mut || { black_box(leaves::count_nulls(black_box(&map), rows, 64)); }, &mut || {
+        { black_box(std_side::count_nulls(black_box(&map), rows, 64)); }
+    })
+}
+
+fn copying(r: &mut Random) -> bool {
+    let mut all = true;
+    for n in [13, 40, 64, 100, 256, 1024, 4096, 16_384, 65_536, 1 << 20] {
+        let whole = n.max(16_384) / n * n;
+        let src = r.bytes(whole);
+        let (mut x, mut y) = (vec![0; whole], vec![0; whole]);
+        leaves::copy_parts(&src, &mut x, n);
+        assert_eq!(src, x, "copies of {n} bytes");
+        let target = if n < 64 { 0.0 } else { 1.1 };
+        let name = if n < 1 << 20 { format!("copy {n} bytes") } else { "copy 1 MB".into() };
+        all &= row(&name, target, whole / n, &mut || leaves::copy_parts(black_box(&src), black_box(&mut x), n), &mut || {
+            std_side::copy_parts(black_box(&src), black_box(&mut y), n)
+        });
+    }
+    all
+}
+
+fn comparing(name: &str, targets: (f64, f64), values: &[Vec<u8>]) -> bool {
+    let (bytes, ends) = laid(values);
+    assert_eq!(leaves::count_less(&bytes, &ends), std_side::count_less(&bytes, &ends));
+    assert_eq!(leaves::count_same(&bytes, &ends), std_side::count_same(&bytes, &ends));
+    let n = values.len() - 1;
+    let order = row(&format!("order of {name}"), targets.0, n, &mut || { black_box(leaves::count_less(black_box(&bytes), black_box(&ends))); }, &mut || {
+        { black_box(std_side::count_less(black_box(&bytes), black_box(&ends))); }
+    });
+    let same = row(&format!("sameness of {name}"), targets.1, n, &mut || { black_box(leaves::count_same(black_box(&bytes), black_box(&ends))); }, &mut || {
+        { black_box(std_side::count_same(black_box(&bytes), black_box(&ends))); }
+    });
+    order & same
+}
+
+fn main() {
+    let mut r = Random(0x9e37_79b9_7f4a_7c15);
+    println!("| work | best | median | target | ours, ns | std, ns |");
+    println!("|---|---|---|---|---|---|");
+    let mut all = counting(&mut r);
+    all &= copying(&mut r);
+    let random: Vec<_> = (0..1000).map(|_| 13 + r.below(28)).collect();
+    let random: Vec<_> = random.into_iter().map(|n| r.bytes(n)).collect();
+    all &= comparing("random values of 13 to 40 bytes", (0.8, 0.0), &random);
+    let one = r.bytes(1024);
+    all &= comparing("equal values of 1 KB", (1.5, 1.5), &vec![one.clone(); 32]);
+    let short = r.bytes(24);
+    all &= comparing("equal values of 24 bytes", (0.0, 0.0), &vec![short; 1000]);
+    let last: Vec<_> = (0..1000).map(|k| { let mut v = one[..40].to_vec(); v[39] = k as u8; v }).collect();
+    all &= comparing("values of 40 bytes that differ in the last", (0.0, 0.0), &last);
+    println!();
+    println!("{}", if all { "every target is met" } else { "a target is missed" });
+}

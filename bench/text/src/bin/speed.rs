@@ -1,0 +1,83 @@
+//! Times of UTF-8 and of short views against Rust's own, in a batch on each side, rounds interleaved. Prints the ratio of the best and of the median times.
+use std::hint::black_box;
+use std::time::Instant;
+use text::*;
+
+const ROUNDS: usize = 401;
+
+/// `total` bytes of text in rows of `row` bytes, each well formed by itself: whole letters, then as many plain ones as are left.
+fn texts(total: usize, row: usize, mut letter: impl FnMut(&mut Numbers) -> char) -> Vec<u8> {
+    let mut x = Numbers(88172645463325252);
+    let mut s = Vec::with_capacity(total);
+    while s.len() < total {
+        let mut line = String::new();
+        loop {
+            let c = letter(&mut x);
+            if line.len() + c.len_utf8() > row {
+                break;
+            }
+            line.push(c);
+        }
+        let mut line = line.into_bytes();
+        line.resize(row, b'.');
+        s.extend_from_slice(&line);
+    }
+    s
+}
+
+#[inline(never)]
+fn std_rows(s: &[u8], row: usize) -> usize {
+    s.chunks_exact(row).filter(|r| std::str::from_utf8(r).is_ok()).count()
+}
+
+#[inline(never)]
+fn std_short_views(dst: &mut [u8], src: &[u8], lens: &[u8]) -> usize {
+    for (k, (out, v)) in dst.chunks_exact_mut(16).zip(src.chunks_exact(16)).take(lens.len()).enumerate() {
+        out.copy_from_slice(&original::make_view(&v[..lens[k] as usize], 0, 0).to_le_bytes());
+    }
+    lens.len()
+}
+
+fn seconds(f: &mut impl FnMut() -> usize, times: usize) -> f64 {
+    let t = Instant::now();
+    for _ in 0..times {
+        black_box(f());
+    }
+    t.elapsed().as_secs_f64() / times as f64
+}
+
+fn compare(name: &str, unit: f64, mut ours: impl FnMut() -> usize, mut theirs: impl FnMut() -> usize) {
+    assert_eq!(ours(), theirs(), "{name}");
+    let times = (0.0003 / seconds(&mut theirs, 1)).max(1.0) as usize;
+    let (mut a, mut b) = (Vec::new(), Vec::new());
+    for _ in 0..ROUNDS {
+        a.push(seconds(&mut ours, times));
+        b.push(seconds(&mut theirs, times));
+    }
+    a.sort_by(f64::total_cmp);
+    b.sort_by(f64::total_cmp);
+    println!("{name:<28} ours {:8.3} ns, Rust {:8.3} ns, ratio best {:.2}, median {:.2}", a[0] / unit * 1e9, b[0] / unit * 1e9, a[0] / b[0], a[ROUNDS / 2] / b[ROUNDS / 2]);
+}
+
+fn main() {
+    println!("UTF-8, ns a byte, by kind of text and bytes of a row");
+    let latin = |x: &mut Numbers| if x.below(6) == 0 { char::from_u32(0xc0 + x.below(0x140) as u32).unwrap() } else { (b'a' + x.below(26) as u8) as char };
+    let chinese = |x: &mut Numbers| char::from_u32(0x4e00 + x.below(0x5000) as u32).unwrap();
+    for row in [16, 64, 1024, 65536] {
+        let total = 1 << 20;
+        for (kind, s) in [("ASCII", texts(total, row, |x| (32 + x.below(95) as u8) as char)), ("Latin", texts(total, row, latin)), ("CJK", texts(total, row, chinese))] {
+            compare(&format!("{kind} {row}"), s.len() as f64, || rows_utf8(black_box(&s), row), || std_rows(black_box(&s), row));
+        }
+    }
+    println!("short views, ns a view, by length of the value");
+    let mut x = Numbers(7);
+    let rows = 4096;
+    let src: Vec<u8> = (0..16 * rows).map(|_| x.below(256) as u8).collect();
+    let (mut a, mut b) = (vec![0u8; 16 * rows], vec![0u8; 16 * rows]);
+    for n in [0, 1, 2, 3, 4, 7, 8, 11, 12, 13] {
+        let lens: Vec<u8> = (0..rows).map(|_| if n == 13 { x.below(13) as u8 } else { n }).collect();
+        let name = if n == 13 { "view of 0 to 12, mixed".into() } else { format!("view of {n}") };
+        compare(&name, rows as f64, || short_views(black_box(&mut a), black_box(&src), &lens), || std_short_views(black_box(&mut b), black_box(&src), &lens));
+        assert_eq!(a, b);
+    }
+}

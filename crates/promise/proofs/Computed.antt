@@ -1,0 +1,33 @@
+-- The definitions that examples compute with, under one name for an `unfolding` line. Assumes nothing.
+use Prim.Native.Nat.{ℕ}
+use Rattle.bounds.specs.Bounds.{rowLimit, blockLimit, byteLimit, mostCompaction}
+use Rattle.bounds.specs.Refusals.{refuse}
+use Rattle.words.specs.Words.{wordAt, enc, pad}
+use Rattle.null_bits.specs.Bits.{bitAt, isValid, countNulls, putBit}
+use Rattle.null_bits.specs.Runs.{putBits}
+use Rattle.order.specs.Order.{cmp, same}
+use Rattle.utf8.specs.Table.{within, fits, led, ledBy, front, badAfter, firstBad, wellFormed}
+use Rattle.views.specs.View.{lengthOf, bodyOf, prefixOf, blockOf, offsetOf, shortView, longView, makeView, viewAt}
+use Rattle.growth.specs.Growing.{startSize, largestSize, nextSize, sizeAfter, reachedIn, fitsSize, fitsGrowth}
+use Rattle.column.specs.Lent as lent
+use Rattle.column.specs.Meaning.{blocksOf, shown, shownAt, validAt}
+use Rattle.column.specs.Truth.{reachOf, reachable, zeros, honest, isTrue, lowest}
+use Rattle.column.specs.Laid.{rowsOf, viewsOf, bitsOf, flat, putViews, putTable}
+use Rattle.reading.specs.Reading as reading
+use Rattle.comparison.specs.Compare.{compareViews, refuseBoth, whyCompare, compareRows}
+use Rattle.builder.specs.State.{rowsRoom, allBlocks, fitsState, recorded, blocksNow, complete, fitsOpen, grow, makeRoom, lay, addRow, addRows}
+use Rattle.builder.specs.Start.{whyStart, start}
+use Rattle.builder.specs.Values.{hits, found, blockFor, whyLay, whyStore, whyValues, store, putValue, putValues}
+use Rattle.builder.specs.Finish.{whyFinish, finished}
+use Rattle.compaction.specs.Walk.{pass, passAll, anyLong, walked, blocksOut, viewsOut}
+use Rattle.compaction.specs.Compact.{whyCompact, compacted}
+
+unfoldable pub computed : ℕ
+unfolding rowLimit blockLimit byteLimit mostCompaction refuse wordAt enc pad bitAt isValid countNulls putBit putBits cmp same within fits led ledBy front
+    badAfter firstBad wellFormed lengthOf bodyOf prefixOf blockOf offsetOf shortView longView makeView viewAt startSize largestSize nextSize sizeAfter
+    reachedIn fitsSize fitsGrowth lent.rowRoom lent.blockRoom lent.dataRoom lent.fits lent.inData blocksOf shown shownAt validAt reachOf reachable
+    zeros honest isTrue lowest rowsOf viewsOf bitsOf flat putViews putTable reading.whyColumn reading.whyRun reading.whyValue reading.valueAt reading.prefixOf reading.suffixOf
+    reading.prefixAt reading.suffixAt reading.nullRun reading.bytesLen reading.totalBytesLen compareViews refuseBoth whyCompare compareRows rowsRoom allBlocks fitsState recorded blocksNow complete fitsOpen
+    grow makeRoom lay addRow addRows whyStart start hits found blockFor whyLay whyStore whyValues store putValue putValues whyFinish finished pass passAll anyLong walked
+    blocksOut viewsOut whyCompact compacted
+computed = 0

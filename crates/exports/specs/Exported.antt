@@ -1,0 +1,64 @@
+-- Columns and answers as the numbers that C and Rust see. Assumes nothing.
+use mathlib.Core.Bool.{Bool, true, false, not}
+use mathlib.Core.List.{List}
+use Prim.Native.Nat.{ℕ, zero, suc, _+_, _-_}
+use lib.Dec.{eqb}
+use lib.ListN.{getD}
+use Rattle.words.specs.Pick.{pick}
+use Rattle.bounds.specs.Refusals.{numberOf, rowOf}
+use Rattle.bounds.specs.declared.Why.{Why}
+use Rattle.bounds.specs.declared.Why.the-variants as why
+use Rattle.order.specs.declared.Order.{Order}
+use Rattle.order.specs.declared.Order.the-variants.{Less, Equal, Greater}
+use Rattle.column.specs.declared.Kind.{Kind}
+use Rattle.column.specs.declared.Kind.the-variants.{Binary, Text}
+use Rattle.column.specs.declared.Column.{Column}
+use Rattle.column.specs.Lent.{Lent, fits}
+use Rattle.comparison.specs.declared.Compared.{Compared}
+use Rattle.comparison.specs.declared.Compared.the-variants as compared
+use Rattle.comparison.specs.declared.Sameness.{Sameness}
+use Rattle.comparison.specs.declared.Sameness.the-variants as sameness
+use Rattle.comparison.specs.Compare.{compareRows}
+use Rattle.exports.specs.declared.Told.{Told}
+
+abbrev pub kindOf : Bool → Kind
+kindOf true = Binary
+kindOf false = Text
+
+-- a column's five numbers: first row, rows, blocks, 0 for Binary, 0 for no map; a number that is missing is 0
+unfoldable pub columnOf : List ℕ → Column
+columnOf l =
+    record { first = getD l 0 0; rows = getD l 1 0; blocks = getD l 2 0; kind = kindOf (eqb (getD l 3 0) 0); mapped = not (eqb (getD l 4 0) 0) }
+
+abbrev pub told : ℕ → ℕ → Told
+told n r = record { number = n; row = r }
+
+-- 0 where the call is accepted
+abbrev pub whyTold : Why → Told
+whyTold why.Accepted = told 0 0
+whyTold (why.Refused r) = told (numberOf r) (rowOf r)
+
+abbrev pub orderNumber : Order → ℕ
+orderNumber Less = 0
+orderNumber Equal = 1
+orderNumber Greater = 2
+
+-- a refusal's number is 16 higher on the left column, 32 higher on the right one
+abbrev pub comparedNumber : Compared → ℕ
+comparedNumber (compared.Is o) = orderNumber o
+comparedNumber (compared.Left r) = 16 + numberOf r
+comparedNumber (compared.Right r) = 32 + numberOf r
+
+abbrev pub sameTold : Sameness → Told
+sameTold sameness.Different = told 0 0
+sameTold sameness.Same = told 1 0
+sameTold (sameness.Left r) = told (16 + numberOf r) (rowOf r)
+sameTold (sameness.Right r) = told (32 + numberOf r) (rowOf r)
+
+-- how many of the first n rows are below the one after them
+unfoldable pub lessRows : Lent → Column → ℕ → ℕ
+lessRows l c zero = 0
+lessRows l c (suc n) = lessRows l c n + pick (eqb (comparedNumber (compareRows l c n l c (n + 1))) 0) 1 0
+
+unfoldable pub lessBatch : Lent → Column → ℕ
+lessBatch l c = pick (fits l c) (lessRows l c (c .rows - 1)) 0

@@ -29,6 +29,17 @@ typedef struct {
     size_t row;
 } tambuyeel_told;
 
+/* A part of a buffer: 0 or the refusal's number, which buffer (0 the views, 1 the data), its first byte there, how many bytes. */
+typedef struct {
+    uint64_t refused;
+    uint64_t buffer;
+    size_t offset;
+    size_t len;
+} tambuyeel_place;
+
+/* Which bytes a row's value is, the null bit ignored; refused with 2, 3 or 11 the other numbers are 0. */
+tambuyeel_place tambuyeel_value(TAMBUYEEL_COLUMN(), size_t row);
+
 /* Whether a row's value can be read: 0, or 2, 3, 11. */
 uint8_t tambuyeel_why_value(TAMBUYEEL_COLUMN(), size_t row);
 
@@ -45,5 +56,8 @@ tambuyeel_told tambuyeel_same_column(TAMBUYEEL_COLUMN(), TAMBUYEEL_COLUMN(2));
 
 /* How many rows are below the next one, each pair compared as tambuyeel_compare does; 0 where the column is refused with 2. */
 uint64_t tambuyeel_count_less(TAMBUYEEL_COLUMN());
+
+/* The lengths and the first bytes of all values added up, modulo 2^64; 0 where the column is refused with 2. */
+uint64_t tambuyeel_read_all(TAMBUYEEL_COLUMN());
 
 #endif

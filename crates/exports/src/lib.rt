@@ -5,12 +5,15 @@ ghost use lib.Dec.{eqb};
 ghost use lib.ListN.{getD};
 ghost use Rattle.words.specs.Pick.{pick};
 ghost use Rattle.bounds.specs.Refusals.{whyNumber};
+ghost use Rattle.views.specs.View.{viewAt};
 ghost use Rattle.column.specs.Lent.{lent};
+ghost use Rattle.column.specs.Room.{bare};
+ghost use Rattle.comparison.specs.Readable.{Readable};
 ghost use Rattle.reading.specs.Reading.{whyValue};
 ghost use Rattle.validity.specs.Check.{whyInvalid};
 ghost use Rattle.comparison.specs.Compare.{compareRows};
 ghost use Rattle.comparison.specs.Same.{sameColumn};
-ghost use Rattle.exports.specs.Exported.{columnOf, whyTold, orderNumber, comparedNumber, sameTold, lessBatch};
+ghost use Rattle.exports.specs.Exported.{columnOf, whyTold, orderNumber, comparedNumber, sameTold, lessBatch, placeOf, placeAt, tasteOf, tasteBatch};
 use bounds::Why;
 use column::Column;
 use column::Kind;
@@ -23,6 +26,15 @@ use order::Order;
 pub struct Told {
     pub number: u64,
     pub row: usize,
+}
+
+// A part of a buffer: the refusal's number or 0, which buffer (0 the views, 1 the data), from where, how many bytes.
+#[repr(C)]
+pub struct Place {
+    pub refused: u64,
+    pub buffer: u64,
+    pub offset: usize,
+    pub len: usize,
 }
 
 // The number of a place, 0 past the end.
@@ -273,4 +285,99 @@ pub extern "C" fn tambuyeel_count_less<'a>(
         k += 1;
     }
     n
+}
+
+// Where the value of a reachable view stands.
+fn place_of(
+    views: &[u8],
+    bytes: &[u8],
+    starts: &[usize],
+    lens: &[usize],
+    blocks: usize,
+    at: usize,
+) -> Place
+    requires { ⌜ Readable (now views) (now bytes) (now starts) (now lens) blocks at ⌝ }
+    ensures { λ r. ⌜ r ≡ placeOf (bare (now (views .entry)) (now (bytes .entry)) (now (starts .entry)) (now (lens .entry))) (viewAt (now (views .entry)) at) at ⌝ }
+{
+    let len = views::view_len(views, at);
+    if len <= views::SHORT_MOST {
+        return Place {
+            refused: 0,
+            buffer: 0,
+            offset: views::VIEW_SIZE * at + 4,
+            len,
+        };
+    }
+    let k = views::view_block(views, at);
+    let offset = starts[k] + views::view_offset(views, at);
+    Place {
+        refused: 0,
+        buffer: 1,
+        offset,
+        len,
+    }
+}
+
+// Which bytes of which buffer a row's value is.
+#[no_mangle]
+pub extern "C" fn tambuyeel_value(
+    views: &[u8],
+    bytes: &[u8],
+    starts: &[usize],
+    lens: &[usize],
+    nulls: &[u8],
+    column: &[usize],
+    row: usize,
+) -> Place
+    ensures { λ r. ⌜ r ≡ placeAt (lent (now (views .entry)) (now (bytes .entry)) (now (starts .entry)) (now (lens .entry)) (now (nulls .entry))) (columnOf (now (column .entry))) row ⌝ }
+{
+    let c = column_of(column);
+    let why = reading::why_value(views, bytes, starts, lens, nulls, c, row);
+    match why {
+        Why::Refused(r) => return Place {
+            refused: bounds::number(r) as u64,
+            buffer: 0,
+            offset: 0,
+            len: 0,
+        },
+        Why::Accepted => return place_of(views, bytes, starts, lens, c.blocks, c.first + row),
+    }
+}
+
+fn taste(x: &[u8]) -> u64
+    ensures { λ r. ⌜ r ≡ tasteOf (now (x .entry)) ⌝ }
+{
+    if x.len() == 0 {
+        return 0;
+    }
+    std::num::wrapping_add_u64(x.len() as u64, words::wide(x[0]))
+}
+
+// The lengths and the first bytes of all values, added up modulo 2^64; 0 where the column doesn't fit its buffers.
+#[no_mangle]
+pub extern "C" fn tambuyeel_read_all<'a>(
+    views: &'a [u8],
+    bytes: &'a [u8],
+    starts: &[usize],
+    lens: &[usize],
+    nulls: &[u8],
+    column: &[usize],
+) -> u64
+    ensures { λ r. ⌜ r ≡ tasteBatch (lent (now (views .entry)) (now (bytes .entry)) (now (starts .entry)) (now (lens .entry)) (now (nulls .entry))) (columnOf (now (column .entry))) ⌝ }
+{
+    let c = column_of(column);
+    if !column::fits(views, bytes, starts, lens, nulls, c) {
+        return 0;
+    }
+    let rows = c.rows;
+    let mut sum: u64 = 0;
+    let mut k = 0;
+    while k < rows {
+        sum = std::num::wrapping_add_u64(
+            sum,
+            taste(reading::value(views, bytes, starts, lens, nulls, c, k)),
+        );
+        k += 1;
+    }
+    sum
 }

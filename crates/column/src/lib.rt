@@ -44,7 +44,7 @@ pub enum Reach {
 }
 
 // Whether a column's null map, if it has one, has a bit for each of the rows 0 to `rows` - 1.
-fn map_holds(nulls: &[u8], mapped: bool, rows: usize) -> bool
+pub fn map_holds(nulls: &[u8], mapped: bool, rows: usize) -> bool
     requires { ⌜ rows ≤ rowLimit ⌝ }
     ensures { λ r. ⌜ r ≡ leb rows (mapRoom mapped (now (nulls .entry))) ⌝ }
 {
@@ -218,7 +218,7 @@ fn zeros_after(views: &[u8], at: usize, len: usize) -> bool
 }
 
 // Whether a view is honest about the value that it shows.
-fn honest_at(views: &[u8], at: usize, value: &[u8]) -> bool
+pub fn honest_at(views: &[u8], at: usize, value: &[u8]) -> bool
     requires { ⌜ (viewSize * at + viewSize ≤ length (now views)) × (length (now value) ≡ lengthOf (viewAt (now views) at)) ⌝ }
     ensures { λ r. ⌜ r ≡ honest (viewAt (now (views .entry)) at) (now (value .entry)) ⌝ }
 {

@@ -1,11 +1,16 @@
 // What a column's rows show: values, prefixes, suffixes, lengths, null bits, null runs, slices, totals, the row walk.
 // Every call tests its own inputs: none asks anything of its caller.
 ghost use mathlib.Core.Path.{_≡_};
-ghost use Prim.Native.Nat.{_+_, _*_, _^_, _≤_, _<_};
+ghost use mathlib.Core.Bool.{true, false};
+ghost use mathlib.Core.List.{[]};
+ghost use Prim.Native.Nat.{_+_, _*_, _/_, _≤_, _<_};
 ghost use lib.ListN.{length};
+ghost use Rattle.words.specs.Pick.{pick};
+ghost use Rattle.null_bits.specs.Bits as bits;
 ghost use Rattle.views.specs.View.{viewSize, lengthOf, isShort, viewAt};
-ghost use Rattle.column.specs.Lent.{lent};
+ghost use Rattle.column.specs.Lent.{lent, buffers};
 ghost use Rattle.reading.specs.Reading as spec;
+ghost use Rattle.reading.specs.TotalLaws.{rowsOnly, Held};
 ghost use Rattle.reading.specs.Walk.{walkStart, walkValue, walkStep};
 use bounds::Refusal;
 use bounds::Why;
@@ -266,6 +271,96 @@ pub fn slice(
             mapped,
         }),
         Why::Refused(r) => Sliced::Refused(r),
+    }
+}
+
+// What a row adds to `total_bytes_len`: its length unless it is null. The row counts from row 0 of the views.
+fn valid_bytes(views: &[u8], nulls: &[u8], mapped: bool, at: usize) -> usize
+    requires { ⌜ (viewSize * at + viewSize ≤ length (now views)) × (mapped ≡ true → at / 8 < length (now nulls)) ⌝ }
+    ensures { λ r. ⌜ (r ≡ pick (bits.validAt (now (nulls .entry)) mapped at) (lengthOf (viewAt (now (views .entry)) at)) 0) × (r < 4294967296) ⌝ }
+{
+    if null_bits::valid_at(nulls, mapped, at) {
+        return views::view_len(views, at);
+    }
+    0
+}
+
+fn sum_valid(views: &[u8], nulls: &[u8], mapped: bool, first: usize, rows: usize) -> usize
+    requires { ⌜ Held (now views) (now nulls) mapped first rows ⌝ }
+    ensures { λ r. ⌜ r ≡ spec.bytesLen (buffers (now (views .entry)) [] [] (now (nulls .entry))) (rowsOnly mapped first) rows ⌝ }
+{
+    let mut sum = 0;
+    let mut k = 0;
+    while k < rows {
+        sum += valid_bytes(views, nulls, mapped, first + k);
+        k += 1;
+    }
+    sum
+}
+
+// The lengths of the rows that aren't null, short and long.
+pub fn total_bytes_len(
+    views: &[u8],
+    bytes: &[u8],
+    starts: &[usize],
+    lens: &[usize],
+    nulls: &[u8],
+    c: Column,
+) -> Number
+    ensures { λ r. ⌜ r ≡ spec.totalBytesLen (lent (now (views .entry)) (now (bytes .entry)) (now (starts .entry)) (now (lens .entry)) (now (nulls .entry))) c ⌝ }
+{
+    let first = c.first;
+    let rows = c.rows;
+    let mapped = c.mapped;
+    let why = why_column(views, bytes, starts, lens, nulls, c);
+    match why {
+        Why::Accepted => Number::Is(sum_valid(views, nulls, mapped, first, rows)),
+        Why::Refused(r) => Number::Refused(r),
+    }
+}
+
+// What a row adds to `total_buffer_bytes_used`: its length if it is long.
+fn long_bytes(views: &[u8], at: usize) -> usize
+    requires { ⌜ viewSize * at + viewSize ≤ length (now views) ⌝ }
+    ensures { λ r. ⌜ (r ≡ pick (isShort (lengthOf (viewAt (now (views .entry)) at))) 0 (lengthOf (viewAt (now (views .entry)) at))) × (r < 4294967296) ⌝ }
+{
+    let len = views::view_len(views, at);
+    if len <= views::SHORT_MOST {
+        return 0;
+    }
+    len
+}
+
+fn sum_long(views: &[u8], first: usize, rows: usize) -> usize
+    requires { ⌜ Held (now views) [] false first rows ⌝ }
+    ensures { λ r. ⌜ r ≡ spec.bufferBytes (buffers (now (views .entry)) [] [] []) (rowsOnly false first) rows ⌝ }
+{
+    let mut sum = 0;
+    let mut k = 0;
+    while k < rows {
+        sum += long_bytes(views, first + k);
+        k += 1;
+    }
+    sum
+}
+
+// The lengths of the long rows, null ones too.
+pub fn total_buffer_bytes_used(
+    views: &[u8],
+    bytes: &[u8],
+    starts: &[usize],
+    lens: &[usize],
+    nulls: &[u8],
+    c: Column,
+) -> Number
+    ensures { λ r. ⌜ r ≡ spec.totalBufferBytesUsed (lent (now (views .entry)) (now (bytes .entry)) (now (starts .entry)) (now (lens .entry)) (now (nulls .entry))) c ⌝ }
+{
+    let first = c.first;
+    let rows = c.rows;
+    let why = why_column(views, bytes, starts, lens, nulls, c);
+    match why {
+        Why::Accepted => Number::Is(sum_long(views, first, rows)),
+        Why::Refused(r) => Number::Refused(r),
     }
 }
 

@@ -1,0 +1,223 @@
+// The block table lent as a slice of records, as document 01 has it: the record of a block, what a row sees of the table, and reading over it.
+// A function that has the table is proved by hand, so each is thin: it asks `look` what the row sees, and a function over numbers does the work.
+ghost use mathlib.Core.Path.{_≡_};
+ghost use mathlib.Core.Bool.{true};
+ghost use mathlib.Core.List.{List};
+ghost use Prim.Native.Nat.{ℕ, _+_, _*_, _≤_};
+ghost use lib.ListN.{length, getD};
+ghost use Rattle.views.specs.View.{viewSize, viewAt, blockOf};
+ghost use Rattle.column.specs.declared.Block.{Block};
+ghost use Rattle.column.specs.Lent.{buffers, block, fits};
+ghost use Rattle.column.specs.Meaning.{blocksOf, shown};
+ghost use Rattle.column.specs.Truth.{reachable};
+ghost use Rattle.reading.specs.Reading.{whyValue, valueAt};
+ghost use Rattle.blocks.specs.Seen.{Sees, Spans};
+use bounds::Refusal;
+use bounds::Why;
+use column::Block;
+use column::Column;
+
+// What a row sees of the table: how many records there are, and the record of the block that its view names.
+pub struct Seen {
+    pub count: usize,
+    pub block: Block,
+}
+
+// How many records the table has.
+pub fn count(table: &[Block]) -> usize
+    ensures { λ r. ⌜ r ≡ length (now (table .entry)) ⌝ }
+{
+    table.len()
+}
+
+// The record of block k, or `other` where the table has none.
+pub fn block_or(table: &[Block], k: usize, other: Block) -> Block
+    ensures { λ r. ⌜ r ≡ getD (now (table .entry)) k other ⌝ }
+{
+    if k < table.len() {
+        return table[k];
+    }
+    other
+}
+
+// The number of the block that a row's view names; where the views have no such row, 0.
+fn block_of(views: &[u8], c: Column, row: usize) -> usize
+    ensures { λ k. ⌜ (viewSize * (c .first + row) + viewSize ≤ length (now (views .entry)) → k ≡ blockOf (viewAt (now (views .entry)) (c .first + row))) ⌝ }
+{
+    let first = c.first;
+    let rows = views.len() / views::VIEW_SIZE;
+    if rows <= first {
+        return 0;
+    }
+    if rows - first <= row {
+        return 0;
+    }
+    views::view_block(views, first + row)
+}
+
+// Whether a column's numbers fit the buffers, by how many records the table has.
+fn fits_with<'a>(views: &'a [u8], nulls: &'a [u8], c: Column, count: usize) -> bool
+    ensures { λ r. ⌜ (r ≡ true → viewSize * (c .first + c .rows) ≤ length (now (views .entry)))
+        × ((bytes : List ℕ) (table : List Block) → count ≡ length table → r ≡ fits (buffers (now (views .entry)) bytes table (now (nulls .entry))) c) ⌝ }
+{
+    let first = c.first;
+    let rows = c.rows;
+    let blocks = c.blocks;
+    let mapped = c.mapped;
+    if bounds::ROW_LIMIT < first {
+        return false;
+    }
+    if bounds::ROW_LIMIT - first < rows {
+        return false;
+    }
+    let end = first + rows;
+    if views.len() / views::VIEW_SIZE < end {
+        return false;
+    }
+    if !column::map_holds(nulls, mapped, end) {
+        return false;
+    }
+    if bounds::BLOCK_LIMIT < blocks {
+        return false;
+    }
+    blocks <= count
+}
+
+// Whether the view of a row, which counts from row 0 of the views, is reachable, by the record of the block that it names.
+fn reach_with<'a>(views: &'a [u8], bytes: &'a [u8], at: usize, blocks: usize, b: Block) -> bool
+    requires { ⌜ viewSize * at + viewSize ≤ length (now views) ⌝ }
+    ensures { λ r. ⌜ (r ≡ true → Spans (now (bytes .entry)) b (viewAt (now (views .entry)) at))
+        × ((table : List Block) (nulls : List ℕ) → b ≡ getD table (blockOf (viewAt (now (views .entry)) at)) (block 0 0)
+        → r ≡ reachable (buffers (now (views .entry)) (now (bytes .entry)) table nulls) blocks (viewAt (now (views .entry)) at)) ⌝ }
+{
+    let len = views::view_len(views, at);
+    if len <= views::SHORT_MOST {
+        return true;
+    }
+    if blocks <= views::view_block(views, at) {
+        return false;
+    }
+    let start = b.start;
+    let size = b.len;
+    if !column::in_data(bytes, start, size) {
+        return false;
+    }
+    views::view_offset(views, at) + len <= size
+}
+
+// Why a row's value is refused, by what the row sees of the table.
+fn why_with<'a>(
+    views: &'a [u8],
+    bytes: &'a [u8],
+    nulls: &'a [u8],
+    c: Column,
+    row: usize,
+    s: Seen,
+) -> Why
+    ensures { λ w. ⌜ ((table : List Block) → Sees table (now (views .entry)) (c .first + row) s
+        → w ≡ whyValue (buffers (now (views .entry)) (now (bytes .entry)) table (now (nulls .entry))) c row) ⌝ }
+{
+    let count = s.count;
+    if !fits_with(views, nulls, c, count) {
+        return Why::Refused(Refusal::Fit);
+    }
+    let rows = c.rows;
+    if rows <= row {
+        return Why::Refused(Refusal::Row);
+    }
+    let first = c.first;
+    let blocks = c.blocks;
+    let b = s.block;
+    if !reach_with(views, bytes, first + row, blocks, b) {
+        return Why::Refused(Refusal::BadView(row));
+    }
+    Why::Accepted
+}
+
+// The part that a reachable view shows, by the record of its block.
+fn part_with<'a>(views: &'a [u8], bytes: &'a [u8], at: usize, b: Block) -> &'a [u8]
+    requires { ⌜ (viewSize * at + viewSize ≤ length (now views)) × Spans (now bytes) b (viewAt (now views) at) ⌝ }
+    ensures { λ r. ⌜ ((table : List Block) (nulls : List ℕ) (blocks : ℕ) → b ≡ getD table (blockOf (viewAt (now (views .entry)) at)) (block 0 0)
+        → reachable (buffers (now (views .entry)) (now (bytes .entry)) table nulls) blocks (viewAt (now (views .entry)) at) ≡ true
+        → now r ≡ shown (blocksOf (buffers (now (views .entry)) (now (bytes .entry)) table nulls) blocks) (viewAt (now (views .entry)) at)) ⌝ }
+{
+    let len = views::view_len(views, at);
+    if len <= views::SHORT_MOST {
+        let a = views::VIEW_SIZE * at + 4;
+        let e = a + len;
+        return &views[a..e];
+    }
+    let start = b.start;
+    let a = start + views::view_offset(views, at);
+    let e = a + len;
+    &bytes[a..e]
+}
+
+// A row's value, by what the row sees of the table.
+fn value_with<'a>(
+    views: &'a [u8],
+    bytes: &'a [u8],
+    nulls: &'a [u8],
+    c: Column,
+    row: usize,
+    s: Seen,
+) -> &'a [u8]
+    ensures { λ r. ⌜ ((table : List Block) → Sees table (now (views .entry)) (c .first + row) s
+        → now r ≡ valueAt (buffers (now (views .entry)) (now (bytes .entry)) table (now (nulls .entry))) c row) ⌝ }
+{
+    let count = s.count;
+    if !fits_with(views, nulls, c, count) {
+        return &views[0..0];
+    }
+    let rows = c.rows;
+    if rows <= row {
+        return &views[0..0];
+    }
+    let at = c.first + row;
+    let blocks = c.blocks;
+    let b = s.block;
+    if !reach_with(views, bytes, at, blocks, b) {
+        return &views[0..0];
+    }
+    part_with(views, bytes, at, b)
+}
+
+// What a row of a column sees of the table.
+pub fn look<'a>(views: &'a [u8], table: &'a [Block], c: Column, row: usize) -> Seen
+    ensures { λ s. ⌜ Sees (now (table .entry)) (now (views .entry)) (c .first + row) s ⌝ }
+{
+    let k = block_of(views, c, row);
+    let b = block_or(table, k, Block { start: 0, len: 0 });
+    let n = count(table);
+    Seen { count: n, block: b }
+}
+
+// Why a row's value is refused.
+pub fn why_value<'a>(
+    views: &'a [u8],
+    bytes: &'a [u8],
+    table: &'a [Block],
+    nulls: &'a [u8],
+    c: Column,
+    row: usize,
+) -> Why
+    ensures { λ w. ⌜ w ≡ whyValue (buffers (now (views .entry)) (now (bytes .entry)) (now (table .entry)) (now (nulls .entry))) c row ⌝ }
+{
+    let s = look(views, table, c, row);
+    why_with(views, bytes, nulls, c, row, s)
+}
+
+// A row's value, a part of the views where it is short and of the data where it is long; empty where it is refused.
+pub fn value<'a>(
+    views: &'a [u8],
+    bytes: &'a [u8],
+    table: &'a [Block],
+    nulls: &'a [u8],
+    c: Column,
+    row: usize,
+) -> &'a [u8]
+    ensures { λ r. ⌜ now r ≡ valueAt (buffers (now (views .entry)) (now (bytes .entry)) (now (table .entry)) (now (nulls .entry))) c row ⌝ }
+{
+    let s = look(views, table, c, row);
+    value_with(views, bytes, nulls, c, row, s)
+}

@@ -1,0 +1,98 @@
+-- Columns and answers as the numbers that C and Rust see. Assumes nothing.
+use mathlib.Core.Bool.{Bool, true, false, not}
+use mathlib.Core.List.{List}
+use Prim.Native.Nat.{ℕ, zero, suc, _+_, _-_, _*_, _%_, _^_}
+use lib.Dec.{eqb}
+use lib.ListN.{length, take, drop, getD}
+use Rattle.words.specs.Pick.{pick}
+use Rattle.bounds.specs.Refusals.{numberOf, rowOf}
+use Rattle.bounds.specs.declared.Why.{Why}
+use Rattle.bounds.specs.declared.Why.the-variants as why
+use Rattle.views.specs.View.{viewSize, isShort, lengthOf, blockOf, offsetOf}
+use Rattle.order.specs.declared.Order.{Order}
+use Rattle.order.specs.declared.Order.the-variants.{Less, Equal, Greater}
+use Rattle.column.specs.declared.Kind.{Kind}
+use Rattle.column.specs.declared.Kind.the-variants.{Binary, Text}
+use Rattle.column.specs.declared.Column.{Column}
+use Rattle.column.specs.Lent.{Lent, fits, blockAt}
+use Rattle.column.specs.Meaning.{rowView}
+use Rattle.reading.specs.Reading.{whyValue, valueAt}
+use Rattle.comparison.specs.declared.Compared.{Compared}
+use Rattle.comparison.specs.declared.Compared.the-variants as compared
+use Rattle.comparison.specs.declared.Sameness.{Sameness}
+use Rattle.comparison.specs.declared.Sameness.the-variants as sameness
+use Rattle.comparison.specs.Compare.{compareRows}
+use Rattle.exports.specs.declared.Told.{Told}
+use Rattle.exports.specs.declared.Place.{Place}
+
+abbrev pub kindOf : Bool → Kind
+kindOf true = Binary
+kindOf false = Text
+
+-- a column's five numbers: first row, rows, blocks, 0 for Binary, 0 for no map; a number that is missing is 0
+unfoldable pub columnOf : List ℕ → Column
+columnOf l =
+    record { first = getD l 0 0; rows = getD l 1 0; blocks = getD l 2 0; kind = kindOf (eqb (getD l 3 0) 0); mapped = not (eqb (getD l 4 0) 0) }
+
+abbrev pub told : ℕ → ℕ → Told
+told n r = record { number = n; row = r }
+
+-- 0 where the call is accepted
+abbrev pub whyTold : Why → Told
+whyTold why.Accepted = told 0 0
+whyTold (why.Refused r) = told (numberOf r) (rowOf r)
+
+abbrev pub orderNumber : Order → ℕ
+orderNumber Less = 0
+orderNumber Equal = 1
+orderNumber Greater = 2
+
+-- a refusal's number is 16 higher on the left column, 32 higher on the right one
+abbrev pub comparedNumber : Compared → ℕ
+comparedNumber (compared.Is o) = orderNumber o
+comparedNumber (compared.Left r) = 16 + numberOf r
+comparedNumber (compared.Right r) = 32 + numberOf r
+
+abbrev pub sameTold : Sameness → Told
+sameTold sameness.Different = told 0 0
+sameTold sameness.Same = told 1 0
+sameTold (sameness.Left r) = told (16 + numberOf r) (rowOf r)
+sameTold (sameness.Right r) = told (32 + numberOf r) (rowOf r)
+
+-- how many of the first n rows are below the one after them
+unfoldable pub lessRows : Lent → Column → ℕ → ℕ
+lessRows l c zero = 0
+lessRows l c (suc n) = lessRows l c n + pick (eqb (comparedNumber (compareRows l c n l c (n + 1))) 0) 1 0
+
+unfoldable pub lessBatch : Lent → Column → ℕ
+lessBatch l c = pick (fits l c) (lessRows l c (c .rows - 1)) 0
+
+abbrev pub place : ℕ → ℕ → ℕ → ℕ → Place
+place refused buffer offset len = record { refused = refused; buffer = buffer; offset = offset; len = len }
+
+-- where the value of a view stands: in the views (buffer 0), behind the length of the row that is counted from row 0, or in the data (1)
+unfoldable pub placeOf : Lent → List ℕ → ℕ → Place
+placeOf l v at =
+    pick (isShort (lengthOf v)) (place 0 0 (viewSize * at + 4) (lengthOf v)) (place 0 1 (blockAt l (blockOf v) .start + offsetOf v) (lengthOf v))
+
+abbrev pub placeWhen : Why → Place → Place
+placeWhen why.Accepted p = p
+placeWhen (why.Refused r) p = place (numberOf r) 0 0 0
+
+unfoldable pub placeAt : Lent → Column → ℕ → Place
+placeAt l c r = placeWhen (whyValue l c r) (placeOf l (rowView l c r) (c .first + r))
+
+-- the bytes that a place names
+unfoldable pub named : Lent → Place → List ℕ
+named l p = take (p .len) (drop (p .offset) (pick (eqb (p .buffer) 0) (l .views) (l .bytes)))
+
+-- the lengths and the first bytes of the values of the first n rows, added up
+unfoldable pub tasteOf : List ℕ → ℕ
+tasteOf x = (length x + getD x 0 0) % 2 ^ 64
+
+unfoldable pub tasteRows : Lent → Column → ℕ → ℕ
+tasteRows l c zero = 0
+tasteRows l c (suc n) = (tasteRows l c n + tasteOf (valueAt l c n)) % 2 ^ 64
+
+unfoldable pub tasteBatch : Lent → Column → ℕ
+tasteBatch l c = pick (fits l c) (tasteRows l c (c .rows)) 0

@@ -12,8 +12,7 @@ mod leaves {
         extern "C" {
             pub fn leaf_count_nulls(map: *const u8, len: usize, rows: usize, times: usize) -> u64;
             pub fn leaf_copy_parts(src: *const u8, len: usize, dst: *mut u8, room: usize, n: usize);
-            pub fn leaf_count_less(bytes: *const u8, len: usize, ends: *const usize, count: usize) -> u64;
-            pub fn leaf_count_same(bytes: *const u8, len: usize, ends: *const usize, count: usize) -> u64;
+            pub fn leaf_count_pairs(bytes: *const u8, len: usize, ends: *const usize, count: usize, sameness: bool) -> u64;
         }
     }
     pub fn count_nulls(map: &[u8], rows: usize, times: usize) -> u64 {
@@ -23,10 +22,10 @@ mod leaves {
         unsafe { raw::leaf_copy_parts(src.as_ptr(), src.len(), dst.as_mut_ptr(), dst.len(), n) }
     }
     pub fn count_less(bytes: &[u8], ends: &[usize]) -> u64 {
-        unsafe { raw::leaf_count_less(bytes.as_ptr(), bytes.len(), ends.as_ptr(), ends.len()) }
+        unsafe { raw::leaf_count_pairs(bytes.as_ptr(), bytes.len(), ends.as_ptr(), ends.len(), false) }
     }
     pub fn count_same(bytes: &[u8], ends: &[usize]) -> u64 {
-        unsafe { raw::leaf_count_same(bytes.as_ptr(), bytes.len(), ends.as_ptr(), ends.len()) }
+        unsafe { raw::leaf_count_pairs(bytes.as_ptr(), bytes.len(), ends.as_ptr(), ends.len(), true) }
     }
 }
 

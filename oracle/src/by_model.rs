@@ -280,48 +280,10 @@ impl ByModel {
             Ok((s, Answer::Done))
         })
     }
-}
 
-impl Engine for ByModel {
-    fn call(&mut self, call: &Call) -> (Answer, Option<Held>) {
-        let done = |s: State| (s, Answer::Done);
+    /// A question, which changes nothing.
+    fn question(&self, call: &Call) -> (Answer, Option<Held>) {
         match call {
-            Call::Start(..) => self.start(call),
-            Call::State(b, s, sizes) => {
-                self.builders[*b] = Some((*s, lend(sizes, self.fill)));
-                (Answer::Done, self.held_by(*b))
-            }
-            Call::Value(b, v) => self.build(*b, |s, r| model::append_value(s, r, v).map(done)),
-            Call::Values(b, v, n) => {
-                self.build(*b, |s, r| model::append_value_n(s, r, v, *n).map(done))
-            }
-            Call::Null(b) => self.build(*b, |s, r| model::append_null(s, r).map(done)),
-            Call::Block(b, v) => self.build(*b, |s, r| {
-                model::append_block(s, r, v).map(|(s, n)| (s, Answer::Number(n)))
-            }),
-            Call::View(b, k, o, n) => {
-                self.build(*b, |s, r| model::append_view(s, r, *k, *o, *n).map(done))
-            }
-            Call::Append(b, c) => self.append(*b, *c),
-            Call::Get(b, row) => self.build(*b, |s, r| {
-                let part = model::get_value(s, r, *row)?;
-                Ok((*s, Answer::Bytes(part.of(&r.views, &r.data).to_vec())))
-            }),
-            Call::Finish(b, c) => self.finish(*b, *c),
-            Call::Copy(b, c) => self.copy(*b, *c),
-            Call::Compact(c, max, d, s) => self.compact(*c, *max, *d, s),
-            Call::Offsets(..) => self.offsets(call),
-            Call::Raw(d, raw) => {
-                let rooms = Rooms {
-                    views: raw.views.clone(),
-                    data: raw.data.clone(),
-                    table: raw.table.clone(),
-                    map: raw.map.clone(),
-                    merge: vec![],
-                };
-                self.keep(*d, rooms, raw.column)
-            }
-            Call::Slice(c, start, count, d) => self.slice(*c, *start, *count, *d),
             Call::Read(c, r) => self.ask_part(*c, |k| model::value(&k.rooms.lent(), &k.column, *r)),
             Call::Prefix(c, r, n) => {
                 self.ask_part(*c, |k| model::prefix(&k.rooms.lent(), &k.column, *r, *n))
@@ -388,6 +350,52 @@ impl Engine for ByModel {
                 let view = model::make_view(v, *b, *o);
                 (answer(view, |v| Answer::Bytes(v.to_vec())), None)
             }
+            _ => unreachable!("a call that changes something"),
+        }
+    }
+}
+
+impl Engine for ByModel {
+    fn call(&mut self, call: &Call) -> (Answer, Option<Held>) {
+        let done = |s: State| (s, Answer::Done);
+        match call {
+            Call::Start(..) => self.start(call),
+            Call::State(b, s, sizes) => {
+                self.builders[*b] = Some((*s, lend(sizes, self.fill)));
+                (Answer::Done, self.held_by(*b))
+            }
+            Call::Value(b, v) => self.build(*b, |s, r| model::append_value(s, r, v).map(done)),
+            Call::Values(b, v, n) => {
+                self.build(*b, |s, r| model::append_value_n(s, r, v, *n).map(done))
+            }
+            Call::Null(b) => self.build(*b, |s, r| model::append_null(s, r).map(done)),
+            Call::Block(b, v) => self.build(*b, |s, r| {
+                model::append_block(s, r, v).map(|(s, n)| (s, Answer::Number(n)))
+            }),
+            Call::View(b, k, o, n) => {
+                self.build(*b, |s, r| model::append_view(s, r, *k, *o, *n).map(done))
+            }
+            Call::Append(b, c) => self.append(*b, *c),
+            Call::Get(b, row) => self.build(*b, |s, r| {
+                let part = model::get_value(s, r, *row)?;
+                Ok((*s, Answer::Bytes(part.of(&r.views, &r.data).to_vec())))
+            }),
+            Call::Finish(b, c) => self.finish(*b, *c),
+            Call::Copy(b, c) => self.copy(*b, *c),
+            Call::Compact(c, max, d, s) => self.compact(*c, *max, *d, s),
+            Call::Offsets(..) => self.offsets(call),
+            Call::Raw(d, raw) => {
+                let rooms = Rooms {
+                    views: raw.views.clone(),
+                    data: raw.data.clone(),
+                    table: raw.table.clone(),
+                    map: raw.map.clone(),
+                    merge: vec![],
+                };
+                self.keep(*d, rooms, raw.column)
+            }
+            Call::Slice(c, start, count, d) => self.slice(*c, *start, *count, *d),
+            question => self.question(question),
         }
     }
 }

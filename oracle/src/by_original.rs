@@ -435,41 +435,10 @@ impl ByOriginal {
             && left.bytes_iter().eq(right.bytes_iter());
         (Answer::Number(same as u64), None)
     }
-}
 
-impl Engine for ByOriginal {
-    fn call(&mut self, call: &Call) -> (Answer, Option<Held>) {
+    /// A question, which changes nothing.
+    fn question(&self, call: &Call) -> (Answer, Option<Held>) {
         match call {
-            Call::Start(..) => self.start(call),
-            Call::State(b, ..) => {
-                self.builders[*b] = None;
-                (Answer::Beyond, None)
-            }
-            Call::Value(b, v) => self.build(*b, |b| Self::value(b, v, 1)),
-            Call::Values(b, v, n) => self.build(*b, |b| Self::value(b, v, *n as usize)),
-            Call::Null(b) => self.build(*b, |b| {
-                each!(b, Builder, x => x.append_null());
-                Answer::Done
-            }),
-            Call::Block(b, v) => self.build(*b, |b| {
-                let buffer = Buffer::from(v.as_slice());
-                Answer::Number(each!(b, Builder, x => x.append_block(buffer)) as u64)
-            }),
-            Call::View(b, k, o, n) => self.build(*b, |b| Self::view(b, *k, *o, *n)),
-            Call::Append(b, c) => self.append(*b, *c),
-            Call::Get(b, row) => self.build(*b, |b| {
-                let value = tried(|| each!(b, Builder, x => x.get_value(*row as usize).to_vec()));
-                or_past(value, Answer::Bytes)
-            }),
-            Call::Finish(b, c) => self.finish(*b, *c, false),
-            Call::Copy(b, c) => self.finish(*b, *c, true),
-            Call::Compact(c, max, d, _) => self.compact(*c, *max, *d),
-            Call::Offsets(..) => self.offsets(call),
-            Call::Raw(d, raw) => {
-                self.columns[*d] = made(raw).unwrap_or(Slot::Bad);
-                (Answer::Done, None)
-            }
-            Call::Slice(c, start, count, d) => self.slice(*c, *start, *count, *d),
             Call::Read(c, r) => self.ask(*c, |a| {
                 let value = match a {
                     Array2::Binary(a) => tried(|| a.value(*r as usize).to_vec()),
@@ -536,6 +505,45 @@ impl Engine for ByOriginal {
                 Answer::Bytes(make_view(v, *b, *o).to_le_bytes().to_vec()),
                 None,
             ),
+            _ => unreachable!("a call that changes something"),
+        }
+    }
+}
+
+impl Engine for ByOriginal {
+    fn call(&mut self, call: &Call) -> (Answer, Option<Held>) {
+        match call {
+            Call::Start(..) => self.start(call),
+            Call::State(b, ..) => {
+                self.builders[*b] = None;
+                (Answer::Beyond, None)
+            }
+            Call::Value(b, v) => self.build(*b, |b| Self::value(b, v, 1)),
+            Call::Values(b, v, n) => self.build(*b, |b| Self::value(b, v, *n as usize)),
+            Call::Null(b) => self.build(*b, |b| {
+                each!(b, Builder, x => x.append_null());
+                Answer::Done
+            }),
+            Call::Block(b, v) => self.build(*b, |b| {
+                let buffer = Buffer::from(v.as_slice());
+                Answer::Number(each!(b, Builder, x => x.append_block(buffer)) as u64)
+            }),
+            Call::View(b, k, o, n) => self.build(*b, |b| Self::view(b, *k, *o, *n)),
+            Call::Append(b, c) => self.append(*b, *c),
+            Call::Get(b, row) => self.build(*b, |b| {
+                let value = tried(|| each!(b, Builder, x => x.get_value(*row as usize).to_vec()));
+                or_past(value, Answer::Bytes)
+            }),
+            Call::Finish(b, c) => self.finish(*b, *c, false),
+            Call::Copy(b, c) => self.finish(*b, *c, true),
+            Call::Compact(c, max, d, _) => self.compact(*c, *max, *d),
+            Call::Offsets(..) => self.offsets(call),
+            Call::Raw(d, raw) => {
+                self.columns[*d] = made(raw).unwrap_or(Slot::Bad);
+                (Answer::Done, None)
+            }
+            Call::Slice(c, start, count, d) => self.slice(*c, *start, *count, *d),
+            question => self.question(question),
         }
     }
 }

@@ -117,6 +117,49 @@ fn triples(of: &[usize]) -> Vec<[usize; 3]> {
     all
 }
 
+/// All values of up to three bytes out of 0, 1 and 255, and each with bytes before it that make it 12, 13 or 16 long.
+fn many_values() -> Vec<Vec<u8>> {
+    let mut all: Vec<Vec<u8>> = vec![vec![]];
+    for n in 0..3 {
+        let longest: Vec<Vec<u8>> = all.iter().filter(|v| v.len() == n).cloned().collect();
+        for v in longest {
+            all.extend([0, 1, 255].map(|b| [&v[..], &[b]].concat()));
+        }
+    }
+    let padded = |v: &Vec<u8>, n: usize| [&vec![0; n - v.len()][..], v].concat();
+    let long = all.iter().flat_map(|v| [12, 13, 16].map(|n| padded(v, n)));
+    let mut both: Vec<Vec<u8>> = all.iter().cloned().chain(long).collect();
+    both.extend(all.iter().map(|v| [&v[..], &[0; 12]].concat()));
+    both
+}
+
+/// Every pair of many values compared: original, model and the order of bytes agree.
+fn many_orders(t: &mut Tally) {
+    let values = many_values();
+    let array = theirs(&values, Some(100));
+    let mut ours = Ours::binary(Growth::Fixed(40));
+    ours.rooms = wide_rooms();
+    values.iter().for_each(|v| ours.value(v).unwrap());
+    let (_, c) = model::finish(&ours.s, &mut ours.rooms).unwrap();
+    let lent = ours.rooms.lent();
+    let same = |i: usize, j: usize| {
+        // SAFETY: both rows are there and valid.
+        let theirs = unsafe { BinaryViewArray::compare_unchecked(&array, i, &array, j) };
+        let ours = match model::compare(&lent, &c, i as u64, &lent, &c, j as u64).unwrap() {
+            model::Order::Less => Ordering::Less,
+            model::Order::Equal => Ordering::Equal,
+            model::Order::Greater => Ordering::Greater,
+        };
+        theirs == ours && ours == values[i].cmp(&values[j])
+    };
+    let n = values.len();
+    let all = (0..n).all(|i| (0..n).all(|j| same(i, j)));
+    t.that(
+        &format!("comparison of {n} times {n} values, original, model and the order of bytes"),
+        all,
+    );
+}
+
 /// Every short list at every maximum, and every fixed block size: original and model agree.
 fn small_lists(t: &mut Tally) {
     let all = triples(&[0, 12, 13, 14, 26, 31]);
@@ -564,6 +607,66 @@ fn differences_untrue(t: &mut Tally) {
     );
 }
 
+/// Buffers past every limit.
+fn wide_rooms() -> Rooms {
+    Rooms {
+        views: vec![0; 16 * 33_000],
+        data: vec![0; 20_000_000],
+        table: vec![(0, 0); 5_000],
+        map: vec![0; 5_000],
+        merge: vec![0; 33_000],
+    }
+}
+
+/// A builder and the original's, both given the same values until ours refuses one. How many were taken, the refusal,
+/// and whether both hold the same views.
+fn until_refused(fixed: u32, len: usize) -> (u64, u32, bool) {
+    let mut ours = Ours::binary(Growth::Fixed(fixed as u64));
+    ours.rooms = wide_rooms();
+    let mut b = BinaryViewBuilder::with_capacity(33_000).with_fixed_block_size(fixed);
+    let refusal = loop {
+        let mut value = vec![0u8; len];
+        let row = ours.s.rows as u32;
+        value[..4.min(len)].copy_from_slice(&row.to_le_bytes()[..4.min(len)]);
+        match ours.value(&value) {
+            Ok(()) => b.append_value(value),
+            Err(r) => break r.number,
+        }
+    };
+    let array = b.finish();
+    let same = (0..array.len()).all(|r| array.views()[r].to_le_bytes() == *ours.view(r));
+    (
+        ours.s.rows,
+        refusal,
+        same && ours.s.rows == array.len() as u64,
+    )
+}
+
+fn limits(t: &mut Tally) {
+    t.that(
+        "limits: 32,767 rows, then 5",
+        until_refused(1_000, 4) == (32_767, 5, true),
+    );
+    t.that(
+        "limits: 4,096 blocks, then 6",
+        until_refused(13, 13) == (4_096, 6, true),
+    );
+    t.that(
+        "limits: 16,777,216 bytes, then 7",
+        until_refused(65_536, 65_536) == (256, 7, true),
+    );
+    let mut ours = Ours::binary(Growth::Fixed(1));
+    ours.rooms = wide_rooms();
+    let whole = vec![7; 16_777_216];
+    let taken = ours.value(&whole).is_ok() && ours.s.open == 16_777_216;
+    t.that("limits: one value of 16,777,216 bytes", taken);
+    let short = ours.value(b"short").is_ok();
+    t.that(
+        "limits: full of bytes, a short value is taken, a long one is 7",
+        short && ours.value(&[7; 13]) == Err(Refusal::new(7)),
+    );
+}
+
 fn block_sizes(t: &mut Tally) {
     let mut b = BinaryViewBuilder::with_capacity(8);
     let mut sizes = vec![];
@@ -599,10 +702,12 @@ pub fn all() -> Tally {
     bench_1_to_5(&mut t);
     bench_6_to_10(&mut t);
     small_lists(&mut t);
+    many_orders(&mut t);
     shelf(&mut t);
     differences_builder(&mut t);
     differences_columns(&mut t);
     differences_untrue(&mut t);
     block_sizes(&mut t);
+    limits(&mut t);
     t
 }

@@ -40,6 +40,8 @@ pub struct Generator {
     /// Columns that there are; of those whose numbers don't fit nothing is held.
     there: Vec<bool>,
     pool: Vec<Vec<u8>>,
+    /// The values are those of scripts, and not of lists.
+    scripts: bool,
     large: bool,
     /// The model's answer to the last call.
     answer: Answer,
@@ -144,10 +146,10 @@ impl Generator {
         self.emit(Call::Append(0, 2));
     }
 
-    /// `large`: one in 25 has values around the first sizes of the doubling.
-    fn new(seed: u64, whom: For, large: bool) -> Self {
+    /// For scripts, one in 25 has values around the first sizes of the doubling.
+    fn new(seed: u64, whom: For, scripts: bool) -> Self {
         let mut random = Random::new(seed);
-        let large = large && random.once_in(25);
+        let large = scripts && random.once_in(25);
         let mut g = Generator {
             random,
             whom,
@@ -159,6 +161,7 @@ impl Generator {
             column_kinds: vec![Kind::Binary; COLUMNS as usize],
             there: vec![false; COLUMNS as usize],
             pool: vec![],
+            scripts,
             large,
             answer: Answer::Done,
         };
@@ -210,8 +213,35 @@ impl Generator {
         bytes
     }
 
+    /// Text with a sequence in it that is ill-formed, or only just well-formed.
+    fn near_text(&mut self, n: u64) -> Vec<u8> {
+        const NEAR: [&[u8]; 14] = [
+            b"\xc0\x80",
+            b"\xc1\xbf",
+            b"\xc2\x80",
+            b"\xe0\x9f\xbf",
+            b"\xe0\xa0\x80",
+            b"\xed\x9f\xbf",
+            b"\xed\xa0\x80",
+            b"\xed\xbf\xbf",
+            b"\xf0\x8f\xbf\xbf",
+            b"\xf0\x90\x80\x80",
+            b"\xf4\x8f\xbf\xbf",
+            b"\xf4\x90\x80\x80",
+            b"\xe1\x80",
+            b"\x80",
+        ];
+        let mut bytes = self.text(n);
+        bytes.extend(*self.random.pick(&NEAR));
+        bytes.extend(self.text(n % 3));
+        bytes
+    }
+
     fn fresh_value(&mut self) -> Vec<u8> {
         let n = self.length();
+        if self.scripts && self.random.once_in(12) {
+            return self.near_text(n);
+        }
         match self.random.below(4) {
             // Few different bytes, so that values share their beginnings.
             0 => (0..n)

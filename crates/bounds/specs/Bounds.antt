@@ -1,5 +1,5 @@
 -- The numbers that bound every column and state, each under one name. Proofs elsewhere cite the laws, not the numbers. Assumes nothing.
-use Prim.Native.Nat.{ℕ, _<_, _≤_}
+use Prim.Native.Nat.{ℕ, _<_}
 use mathlib.Core.Path.{_≡_, refl}
 use lib.Dec.{lit<}
 

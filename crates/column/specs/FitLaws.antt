@@ -1,5 +1,5 @@
 -- The table of two number slices, and what it tells that a column's numbers fit. Assumes nothing.
-use mathlib.Core.Path.{_≡_, refl, sym, ap, subst, _∙_}
+use mathlib.Core.Path.{_≡_, refl, sym, subst, _∙_}
 use mathlib.Core.Logic.{by-cases}
 use mathlib.Core.Bool.{Bool, true, false, _&&_}
 use mathlib.Core.List.{List, [], _∷_}
@@ -13,7 +13,6 @@ use lib.Dec.{leb}
 use lib.ListN.{length, getD}
 use Rattle.bounds.specs.Bounds.{rowLimit, blockLimit, byteLimit}
 use Rattle.views.specs.View.{viewSize}
-use Rattle.column.specs.declared.Block.{Block}
 use Rattle.column.specs.declared.Column.{Column}
 use Rattle.column.specs.Lent.{Lent, block, buffers, blockAt, allInData, tableOf, lent, mapRoom, rowRoom, blockRoom, dataRoom, fits, inData}
 use Rattle.column.specs.Room.{bare, InRoom, Listed}

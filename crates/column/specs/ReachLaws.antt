@@ -1,9 +1,8 @@
 -- How far a view reaches, test by test; what it tells that a view is reachable; and the value that it shows then. Assumes nothing.
 use mathlib.Core.Path.{_≡_, refl, sym, ap, _∙_}
 use mathlib.Core.Bool.{Bool, true, false, _&&_, true≢false}
-use mathlib.Core.List.{List, [], _∷_, map}
+use mathlib.Core.List.{List, [], _∷_}
 use Prim.Native.Nat.{ℕ, zero, suc, _+_, _-_, _*_, _≤_, _<_}
-use native.Mathlib.Nat.{not-suc-le-zero, le-of-suc-le-suc}
 use native.Mathlib.Omega.{arith}
 use borrow.Author.Tests.{le-leb, lt-leb, lt-ltb, le-ltb, leb-true, leb-false, ltb-true, ltb-false}
 use lib.Dec.{leb, ltb}
@@ -11,15 +10,14 @@ use lib.ListN.{length, take, drop, getD, length-drop, List·getD-map}
 use lib.Seq.{getD-take, take-take, drop-drop, length-take-le}
 use Rattle.words.specs.Pick.{pick, part-is}
 use Rattle.bounds.specs.Bounds.{byteLimit}
-use Rattle.views.specs.View.{viewSize, shortMost, lengthOf, blockOf, offsetOf, bodyOf, isShort, viewAt}
+use Rattle.views.specs.View.{viewSize, shortMost, lengthOf, blockOf, offsetOf, bodyOf, viewAt}
 use Rattle.views.specs.ViewLaws.{body-at}
 use Rattle.column.specs.declared.Block.{Block}
 use Rattle.column.specs.declared.Kind.{Kind}
-use Rattle.column.specs.declared.Reach.{Reach}
 use Rattle.column.specs.declared.Reach.the-variants.{Inside, NoBlock, Outside}
 use Rattle.column.specs.Lent.{Lent, block, buffers, lent, blockAt, inData, dataRoom}
 use Rattle.column.specs.Room.{bare}
-use Rattle.column.specs.Meaning.{bytesOf, blocksOf, part, shown}
+use Rattle.column.specs.Meaning.{bytesOf, blocksOf, shown}
 use Rattle.column.specs.Truth.{reachOf, isInside, reachable, isTrue}
 use Rattle.column.specs.FitLaws.{table-at, block-in-data, in-data-gives, and-left, and-right}
 

@@ -1,21 +1,21 @@
 -- Zeros after a short value and the first bytes of a long one, by words; what makes a view true. Assumes nothing.
 use mathlib.Core.Path.{_≡_, refl, sym, ap, _∙_}
-use mathlib.Core.Bool.{Bool, true, false, not, _&&_, true≢false}
+use mathlib.Core.Bool.{Bool, true, false, _&&_}
 use mathlib.Core.List.{List, [], _∷_}
 use Prim.Native.Nat.{ℕ, zero, suc, _+_, _-_, _*_, _/_, _^_, _≤_, _<_}
-use native.Mathlib.Nat.{add-zero, zero-add, suc-add, mul-suc, add-comm, add-assoc, mul-comm, mul-zero, not-suc-le-zero}
+use native.Mathlib.Nat.{add-zero, zero-add, suc-add, mul-suc, add-comm, mul-comm, mul-zero}
 use native.Mathlib.Omega.{arith}
-use borrow.Author.Tests.{le-leb, lt-leb, leb-true, leb-false, eq-eqb, ne-eqb, eqb-true, eqb-false}
-use lib.Dec.{leb, eqb, eqb·suc-zero}
-use lib.ListN.{length, take, drop, getD, length-take, length-drop}
-use lib.Seq.{take-take, drop-drop, take-nil, length-take-le}
+use borrow.Author.Tests.{le-leb, lt-leb, eq-eqb, ne-eqb, eqb-true, eqb-false}
+use lib.Dec.{eqb, eqb·suc-zero}
+use lib.ListN.{length, take, drop, length-drop}
+use lib.Seq.{drop-drop, take-nil, length-take-le}
 use lib.Pow.{high, pow-pos}
 use Rattle.words.specs.Pick.{pick}
 use Rattle.words.specs.Words.{Bytes, wordAt, dec}
 use Rattle.words.specs.WordLaws.{word-split, word-lt}
 use Rattle.words.specs.ListLaws.{word-dec, bytes-part}
 use Rattle.order.specs.Order.{same}
-use Rattle.views.specs.View.{viewSize, shortMost, lengthOf, bodyOf, prefixOf, isShort, viewAt}
+use Rattle.views.specs.View.{viewSize, shortMost, lengthOf, bodyOf, viewAt}
 use Rattle.views.specs.ViewLaws.{body-at, prefix-at}
 use Rattle.column.specs.declared.Kind.{Kind}
 use Rattle.column.specs.Lent.{Lent}

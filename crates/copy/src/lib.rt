@@ -4,8 +4,8 @@ ghost use Prim.Native.Nat.{_+_, _≤_};
 ghost use lib.ListN.{length};
 ghost use Rattle.copy.specs.Over.{over};
 
-// The bytes that one memmove copies: the array stands on the stack.
-const CHUNK: usize = 65536;
+// The bytes that one memmove copies. Without optimization the array stands on the stack.
+const CHUNK: usize = 16384;
 
 // 8 to 16 bytes: two words that may overlap.
 fn two_words(src: &[u8], dst: &mut [u8])
@@ -47,7 +47,7 @@ fn two_halves(src: &[u8], dst: &mut [u8])
 
 // At most a chunk, through an array: LLVM makes one memmove of the two loops.
 fn chunk(src: &[u8], dst: &mut [u8])
-    requires { ⌜ length (now src) ≤ 65536 ⌝ }
+    requires { ⌜ length (now src) ≤ 16384 ⌝ }
     requires { ⌜ length (now src) ≤ length (now dst) ⌝ }
     ensures { λ _. ⌜ now (dst .exit) ≡ over (now (src .entry)) (now (dst .entry)) ⌝ }
 {

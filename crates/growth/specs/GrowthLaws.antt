@@ -1,8 +1,8 @@
 -- What growth does: its eight sizes, that it stays among them, and that each is one that a block may have. Assumes nothing.
 use Prim.Native.Nat.{ℕ, zero, suc, _+_, _-_, _*_, _^_, _≤_, _<_}
-use mathlib.Core.Path.{_≡_, refl, sym, ap, _∙_, subst}
+use mathlib.Core.Path.{_≡_, refl, sym, ap, _∙_}
 use mathlib.Core.Bool.{Bool, true, false, true≢false, not, _||_, _&&_}
-use native.Mathlib.Nat.{add-zero, add-suc, pow-suc}
+use native.Mathlib.Nat.{add-suc, pow-suc}
 use native.Mathlib.Omega.{arith}
 use borrow.Author.Tests.{le-leb, lt-leb, eqb-true, eq-eqb, lt-ltb, le-ltb, leb-true, leb-false, ltb-true, ltb-false}
 use lib.Dec.{eqb, ltb, leb}
@@ -11,10 +11,9 @@ use Rattle.bounds.specs.Bounds.{byteLimit, byte-limit-is}
 use Rattle.bounds.specs.Refusals.{refuse}
 use Rattle.bounds.specs.declared.Why.the-variants.{Accepted, Refused}
 use Rattle.bounds.specs.declared.Refusal.the-variants.{Fit}
-use Rattle.growth.specs.declared.Step.{Step}
 use Rattle.growth.specs.declared.Growth.{Growth}
 use Rattle.growth.specs.declared.Growth.the-variants.{Fixed, Doubling}
-use Rattle.growth.specs.Growing.{startSize, largestSize, doubledIf, nextSize, sizeAfter, reachedIn, fitsSize, fitsGrowth, sizeOf, grown, stepWhy, stepOf}
+use Rattle.growth.specs.Growing.{startSize, largestSize, nextSize, sizeAfter, reachedIn, fitsSize, fitsGrowth, sizeOf, grown, stepWhy, stepOf}
 
 pub next-doubles : (s : ℕ) → s < largestSize → nextSize s ≡ 2 * s
 unfolding nextSize

@@ -33,14 +33,9 @@ ifIn l s m e x = ifLe s m (ifLe m e (ifLe e (length l) x 0) 0) 0
 abbrev pub part : List ℕ → ℕ → ℕ → List ℕ
 part l s e = take (e - s) (drop s l)
 
-unfoldable pub lessIn : List ℕ → ℕ → ℕ → ℕ → ℕ
-lessIn l s m e = ifIn l s m e (oneIfLess (cmp (part l s m) (part l m e)))
+-- 1 or 0 for two neighbouring values: whether they are the same, or the first is below the second
+unfoldable pub pairIn : List ℕ → ℕ → ℕ → ℕ → Bool → ℕ
+pairIn l s m e sameness = ifIn l s m e (pick sameness (pick (same (part l s m) (part l m e)) 1 0) (oneIfLess (cmp (part l s m) (part l m e))))
 
-unfoldable pub sameIn : List ℕ → ℕ → ℕ → ℕ → ℕ
-sameIn l s m e = ifIn l s m e (pick (same (part l s m) (part l m e)) 1 0)
-
-unfoldable pub lessBatch : List ℕ → List ℕ → ℕ
-lessBatch l ends = summed (λ k. lessIn l (getD ends k 0) (getD ends (k + 1) 0) (getD ends (k + 2) 0)) (length ends - 2)
-
-unfoldable pub sameBatch : List ℕ → List ℕ → ℕ
-sameBatch l ends = summed (λ k. sameIn l (getD ends k 0) (getD ends (k + 1) 0) (getD ends (k + 2) 0)) (length ends - 2)
+unfoldable pub pairsBatch : List ℕ → List ℕ → Bool → ℕ
+pairsBatch l ends sameness = summed (λ k. pairIn l (getD ends k 0) (getD ends (k + 1) 0) (getD ends (k + 2) 0) sameness) (length ends - 2)

@@ -2,8 +2,9 @@
 ghost use mathlib.Core.Path.{_≡_};
 ghost use Prim.Native.Nat.{ℕ, _+_, _*_, _/_, _≤_, min};
 ghost use lib.ListN.{length, take, drop, getD};
+ghost use Rattle.words.specs.Pick.{pick};
 ghost use Rattle.order.specs.Order.{ordering};
-ghost use Rattle.leaf_exports.specs.Batches.{oneIfLess, nullsBatch, partsCopied, lessIn, lessBatch, sameIn, sameBatch};
+ghost use Rattle.leaf_exports.specs.Batches.{nullsBatch, partsCopied, oneIfLess, pairIn, pairsBatch};
 
 // Nulls of the runs of `rows` rows that start at row 0, 1, .. 63, 0, .. (times of them), added up; 0 where the map is too short.
 #[no_mangle]
@@ -54,9 +55,15 @@ fn one_if_less(o: order::Order) -> u64
     }
 }
 
-// 1 where the value from s to m is below the one from m to e, 0 where it isn't or one isn't in the bytes.
-fn less_in(bytes: &[u8], s: usize, m: usize, e: usize) -> u64
-    ensures { λ r. ⌜ r ≡ lessIn (now (bytes .entry)) s m e ⌝ }
+fn one_if(yes: bool) -> u64
+    ensures { λ r. ⌜ r ≡ pick yes 1 0 ⌝ }
+{
+    if yes { 1 } else { 0 }
+}
+
+// 1 where the value from s to m is the same as the one from m to e, or below it; 0 where it isn't, or one isn't in the bytes.
+fn pair_in(bytes: &[u8], s: usize, m: usize, e: usize, sameness: bool) -> u64
+    ensures { λ r. ⌜ r ≡ pairIn (now (bytes .entry)) s m e sameness ⌝ }
 {
     if m < s {
         return 0;
@@ -66,14 +73,17 @@ fn less_in(bytes: &[u8], s: usize, m: usize, e: usize) -> u64
     }
     if bytes.len() < e {
         return 0;
+    }
+    if sameness {
+        return one_if(order::same(&bytes[s..m], &bytes[m..e]));
     }
     one_if_less(order::cmp(&bytes[s..m], &bytes[m..e]))
 }
 
-// How many values are below the next one: value k goes from ends[k] to ends[k + 1].
+// How many values are the same as the next one, or below it: value k goes from ends[k] to ends[k + 1].
 #[no_mangle]
-pub extern "C" fn leaf_count_less(bytes: &[u8], ends: &[usize]) -> u64
-    ensures { λ r. ⌜ r ≡ lessBatch (now (bytes .entry)) (now (ends .entry)) ⌝ }
+pub extern "C" fn leaf_count_pairs(bytes: &[u8], ends: &[usize], sameness: bool) -> u64
+    ensures { λ r. ⌜ r ≡ pairsBatch (now (bytes .entry)) (now (ends .entry)) sameness ⌝ }
 {
     let n = ends.len();
     if n < 2 {
@@ -82,46 +92,7 @@ pub extern "C" fn leaf_count_less(bytes: &[u8], ends: &[usize]) -> u64
     let mut sum: u64 = 0;
     let mut k = 0;
     while k < n - 2 {
-        let x = less_in(bytes, ends[k], ends[k + 1], ends[k + 2]);
-        sum = std::num::wrapping_add_u64(sum, x);
-        k += 1;
-    }
-    sum
-}
-
-// 1 where the two values are the same.
-fn same_in(bytes: &[u8], s: usize, m: usize, e: usize) -> u64
-    ensures { λ r. ⌜ r ≡ sameIn (now (bytes .entry)) s m e ⌝ }
-{
-    if m < s {
-        return 0;
-    }
-    if e < m {
-        return 0;
-    }
-    if bytes.len() < e {
-        return 0;
-    }
-    if order::same(&bytes[s..m], &bytes[m..e]) {
-        1
-    } else {
-        0
-    }
-}
-
-// How many values are the same as the next one.
-#[no_mangle]
-pub extern "C" fn leaf_count_same(bytes: &[u8], ends: &[usize]) -> u64
-    ensures { λ r. ⌜ r ≡ sameBatch (now (bytes .entry)) (now (ends .entry)) ⌝ }
-{
-    let n = ends.len();
-    if n < 2 {
-        return 0;
-    }
-    let mut sum: u64 = 0;
-    let mut k = 0;
-    while k < n - 2 {
-        let x = same_in(bytes, ends[k], ends[k + 1], ends[k + 2]);
+        let x = pair_in(bytes, ends[k], ends[k + 1], ends[k + 2], sameness);
         sum = std::num::wrapping_add_u64(sum, x);
         k += 1;
     }

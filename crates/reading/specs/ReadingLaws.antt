@@ -1,37 +1,28 @@
 -- What an accepted call knows of its column and row, and what a call answers by its verdict. Assumes nothing.
-use mathlib.Core.Path.{_≡_, refl, sym, ap, _∙_}
+use mathlib.Core.Path.{_≡_, refl}
 use mathlib.Core.Bool.{Bool, true, false, not}
 use mathlib.Core.List.{List, []}
-use Prim.Native.Nat.{ℕ, suc, _+_, _-_, _*_, _^_, _≤_, _<_}
+use Prim.Native.Nat.{ℕ, _+_, _-_, _≤_, _<_}
 use native.Mathlib.Nat.{sub-zero}
-use native.Mathlib.Numerals.{add-one}
 use native.Mathlib.Omega.{arith}
 use borrow.Author.Tests.{le-leb, lt-leb, lt-ltb, le-ltb, leb-false, ltb-false, not-false}
 use lib.Dec.{leb, ltb}
 use lib.ListN.{length, take, drop, length-drop}
 use lib.Seq.{take-all}
-use Rattle.words.specs.Pick.{pick}
-use Rattle.bounds.specs.Refusals.{refuse, isAccepted, ifAccepted, accepted-both, accepted-yes, accepted-no}
+use Rattle.bounds.specs.Refusals.{refuse, isAccepted, accepted-both, accepted-yes, accepted-no}
 use Rattle.bounds.specs.declared.Refusal.{Refusal}
 use Rattle.bounds.specs.declared.Refusal.the-variants.{Fit, Row, BadView}
 use Rattle.bounds.specs.declared.Why.{Why}
 use Rattle.bounds.specs.declared.Why.the-variants.{Accepted, Refused}
-use Rattle.null_bits.specs.Bits as bits
-use Rattle.views.specs.View.{lengthOf, isShort, viewAt}
 use Rattle.column.specs.declared.Column.{Column}
 use Rattle.column.specs.Lent.{Lent, fits}
-use Rattle.column.specs.Meaning.{rowView, validAt}
 use Rattle.column.specs.Truth.{reachableAt}
-use Rattle.reading.specs.declared.Number.{Number}
 use Rattle.reading.specs.declared.Number.the-variants as number
-use Rattle.reading.specs.declared.Bit.{Bit}
 use Rattle.reading.specs.declared.Bit.the-variants as bit
-use Rattle.reading.specs.declared.Sliced.{Sliced}
 use Rattle.reading.specs.declared.Sliced.the-variants as sliced
 use Rattle.reading.specs.declared.Cursor.{Cursor}
-use Rattle.reading.specs.declared.Step.{Step}
 use Rattle.reading.specs.Walk.{cursor, walkStep}
-use Rattle.reading.specs.Reading.{numbered, bitWhen, slicedWhen, whyColumn, whyRun, whyRow, whyValue, prefixOf, suffixOf, bytesLen, bufferBytes}
+use Rattle.reading.specs.Reading.{numbered, bitWhen, slicedWhen, whyColumn, whyRun, whyValue, prefixOf, suffixOf}
 
 module _ (l : Lent) (c : Column) where
   -- ---- the tests one by one, and what is known where all let the call pass

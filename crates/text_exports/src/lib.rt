@@ -1,10 +1,17 @@
 // UTF-8 and views for callers in C and Rust, one call and many in a batch. A slice is a pointer and its count of bytes.
+ghost use mathlib.Core.Path.{_≡_};
 ghost use Prim.Native.Nat.{_≤_};
+ghost use Rattle.bounds.specs.Refusals.{whyNumber, ifAccepted};
+ghost use Rattle.utf8.specs.Table.{firstBad};
+ghost use Rattle.views.specs.View.{makeView};
+ghost use Rattle.views.specs.Made.{viewWhy};
 use bounds::Why;
 
 // Where the first ill-formed sequence begins, or the length where the text is well-formed UTF-8.
 #[no_mangle]
-pub extern "C" fn text_first_bad(s: &[u8]) -> usize {
+pub extern "C" fn text_first_bad(s: &[u8]) -> usize
+    ensures { λ r. ⌜ r ≡ firstBad (now (s .entry)) ⌝ }
+{
     utf8::first_bad(s)
 }
 
@@ -27,7 +34,10 @@ pub extern "C" fn text_rows_utf8(s: &[u8], n: usize) -> usize {
 
 // Writes the view of `v` and answers 0, or answers the refusal's number and writes nothing.
 #[no_mangle]
-pub extern "C" fn text_make_view(out: &mut [u8; 16], v: &[u8], block: u32, offset: u32) -> u8 {
+pub extern "C" fn text_make_view(out: &mut [u8; 16], v: &[u8], block: u32, offset: u32) -> u8
+    ensures { λ r. ⌜ r ≡ whyNumber (viewWhy (now (v .entry))) ⌝ }
+    ensures { λ _. ⌜ now (out .exit) ≡ ifAccepted (viewWhy (now (v .entry))) (makeView (now (v .entry)) block offset) (now (out .entry)) ⌝ }
+{
     let made = views::make_view(v, block, offset);
     let why = made.why;
     match why {

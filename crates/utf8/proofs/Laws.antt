@@ -3,7 +3,7 @@ use mathlib.Core.Path.{_≡_, refl, sym, ap, _∙_}
 use mathlib.Core.Bool.{Bool, true, false, _&&_}
 use mathlib.Core.List.{List, [], _∷_}
 use Prim.Native.Nat.{ℕ, zero, suc, _+_, _-_, _*_, _/_, _^_, _≤_, _<_}
-use native.Mathlib.Nat.{add-zero, zero-add, mul-suc, suc-mul, add-comm}
+use native.Mathlib.Nat.{add-zero, mul-suc, suc-mul, add-comm}
 use native.Mathlib.Numerals.{add-one}
 use native.Mathlib.Omega.{arith}
 use borrow.Author.Count.{below-more}
@@ -18,12 +18,12 @@ use Rattle.words.specs.Pick.{pick}
 use Rattle.words.specs.Words.{Bytes, wordAt}
 use Rattle.words.specs.WordLaws.{word-lt}
 use Rattle.utf8.specs.declared.Lead.{Lead}
-use Rattle.utf8.specs.declared.Lead.the-variants.{One, Two, Three, Four, Bad}
-use Rattle.utf8.specs.Table.{Range, _‥_, table, rowAt, within, fits, led, ledBy, front, badAfter, firstBad}
+use Rattle.utf8.specs.declared.Lead.the-variants.{One}
+use Rattle.utf8.specs.Table.{Range, _‥_, table, within, fits, led, ledBy, front, badAfter, firstBad}
 use Rattle.utf8.specs.Lead.{next, tails}
 use Rattle.utf8.specs.Text.{under, over, lead-row, fits-none, bad-skip, judge-one, judge-none}
 
--- ---- lead bytes
+-- lead bytes
 
 -- a byte between two rows' first ranges, or past them all, begins no row
 pub lead-80 : (b : ℕ) → 0x80 ≤ b → b ≤ 0xC1 → led b table ≡ []
@@ -61,7 +61,7 @@ pub front-at : (s : List ℕ) (i : ℕ) (l : Lead) → i < length s → led (get
 unfolding front
 front-at s i l h e = rw (drop-cons s i 0 h, add-one i, e)
 
--- ---- the bytes after the lead
+-- the bytes after the lead
 
 -- too few bytes are left for the row's ranges
 pub too-few : (rs : List Range) (s : List ℕ) (i : ℕ) → i < length s → length s - i < suc (length rs) → 0 ≡ ledBy (rs ∷ []) (drop (i + 1) s)
@@ -91,7 +91,7 @@ module _ (s : List ℕ) (i : ℕ) (r : Range) where
         fits-one next [] s (i + 3) (i + 4) (omega arith) (omega arith),
       )
 
--- ---- the walk
+-- the walk
 
 -- a sequence is passed
 pub bad-step : (s : List ℕ) (i n : ℕ) → i < length s → n ≡ front (drop i s) → (n ≡ 0 → ⊥) → i + n ≤ length s → firstBad (drop i s) ≡ n + firstBad (drop (i + n) s)
@@ -113,7 +113,7 @@ pub bad-end : (s : List ℕ) (i : ℕ) → i ≡ length s → firstBad (drop i s
 unfolding badAfter firstBad
 bad-end s i e = rw (e, drop-length s)
 
--- ---- runs of ASCII bytes
+-- runs of ASCII bytes
 
 pub ascii-one : (s : List ℕ) (i : ℕ) → i < length s → getD s i 0 ≤ 127 → firstBad (drop i s) ≡ 1 + firstBad (drop (i + 1) s)
 unfolding tails ledBy fits

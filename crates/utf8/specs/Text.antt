@@ -6,13 +6,12 @@ use Prim.Native.Nat.{ℕ, zero, suc, _+_, _-_, _≤_, _<_}
 use native.Mathlib.Nat.{zero-add}
 use native.Mathlib.Omega.{arith}
 use borrow.Author.Tests.{leb-true, leb-false, le-leb, lt-leb, ltb-true, eqb-true, eq-eqb}
-use lib.Dec.{leb, ltb, eqb, lit<}
+use lib.Dec.{leb, ltb}
 use lib.ListN.{length, getD, take, drop, length-append, length-drop, take-append-drop}
 use lib.Seq.{drop-append-seam, length-take-le}
-use Rattle.words.specs.Pick.{pick}
 use Rattle.utf8.specs.Table.{Range, _‥_, table, rowAt, within, fits, WellFormed, none, more, led, ledBy, front, badAfter, firstBad, wellFormed}
 
--- ---- ranges
+-- ranges
 
 inside : (b l h : ℕ) → l ≤ b → b ≤ h → within b (l ‥ h) ≡ true
 unfolding within
@@ -40,7 +39,7 @@ within-bounds b r e =
     let p = and-both (leb (r .lo) b) (leb b (r .hi)) e in
     (leb-true (r .lo) b (p .0), leb-true b (r .hi) (p .1))
 
--- ---- a lead byte leaves at most one row, since the rows' first ranges ascend
+-- a lead byte leaves at most one row, since the rows' first ranges ascend
 
 -- the first range of each row begins above h
 abbrev above : ℕ → List (List Range) → Bool
@@ -93,7 +92,7 @@ led-row k b r rs l q w = led-one table k b r rs refl l q w
 pub lead-row : (k b l h : ℕ) (rs : List Range) → k < length table → rowAt k ≡ (l ‥ h) ∷ rs → l ≤ b → b ≤ h → led b table ≡ rs ∷ []
 lead-row k b l h rs n q p r = led-row k b (l ‥ h) rs n q (inside b l h p r)
 
--- ---- the bytes after the lead
+-- the bytes after the lead
 
 pub fits-none : (rs : List Range) (s : List ℕ) → length s < length rs → fits rs s ≡ false
 unfolding fits
@@ -124,7 +123,7 @@ fits-length rs s e = by (leb (length rs) (length s)) refl
     by true q = leb-true (length rs) (length s) q
     by false q = absurd (true≢false (sym e ∙ fits-none rs s (leb-false (length rs) (length s) q)))
 
--- ---- a sequence at the front is a row of the table, and back
+-- a sequence at the front is a row of the table, and back
 
 row-front : (k b : ℕ) (t s : List ℕ) (row : List Range) → k < length table → rowAt k ≡ row → length (b ∷ t) ≡ length row → fits row (b ∷ t) ≡ true → front (b ∷ (t ++ s)) ≡ suc (length t)
 unfolding front fits ledBy
@@ -158,7 +157,7 @@ pub front-row : (b n : ℕ) (s : List ℕ) → front (b ∷ s) ≡ suc n → Fou
 unfolding front
 front-row b n s e = found table b n s e
 
--- ---- the walk from sequence to sequence
+-- the walk from sequence to sequence
 
 pub bad-skip : (k : ℕ) (s : List ℕ) → k ≤ length s → badAfter k s ≡ k + firstBad (drop k s)
 unfolding badAfter firstBad
@@ -174,7 +173,7 @@ pub judge-none : (b : ℕ) (s : List ℕ) → front (b ∷ s) ≡ 0 → firstBad
 unfolding badAfter firstBad
 judge-none b s e = rw e
 
--- ---- well formed, by the table, exactly where no ill-formed sequence begins before the end
+-- well formed, by the table, exactly where no ill-formed sequence begins before the end
 
 formed-good : {s : List ℕ} → WellFormed s → firstBad s ≡ length s
 unfolding badAfter firstBad

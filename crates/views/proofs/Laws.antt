@@ -2,16 +2,15 @@
 use mathlib.Core.Path.{_≡_, refl, sym, ap, _∙_}
 use mathlib.Core.List.{List, [], _∷_, _++_, append-assoc}
 use Prim.Native.Nat.{ℕ, zero, suc, _+_, _-_, _*_, _/_, _%_, _^_, _≤_, _<_}
-use native.Mathlib.Nat.{add-zero, zero-add, add-suc, suc-add, add-assoc, mul-suc, add-comm, mul-comm, mul-assoc, one-mul, div-one, pow-suc}
-use native.Mathlib.Numerals.{add-one, one-add}
+use native.Mathlib.Nat.{add-zero, zero-add, suc-add, add-assoc, mul-comm, mul-assoc, one-mul, pow-suc}
+use native.Mathlib.Numerals.{one-add}
 use native.Mathlib.Omega.{arith}
-use lib.ListN.{length, getD, take, drop, length-append, length-drop, List·getD-eq-default}
-use lib.Pow.{pow-add, shr-shr}
-use lib.Seq.{drop-nil, paste, paste-zero, paste-suc, length-paste, take-paste, drop-paste, drop-drop, getD-drop, take-all}
+use lib.ListN.{length, getD, take, drop, length-append, List·getD-eq-default}
+use lib.Seq.{drop-nil, paste, length-paste, take-paste, drop-paste, drop-drop, getD-drop, take-all}
 use Rattle.words.specs.Words.{Bytes, wordAt, putWord, enc, pad}
 use Rattle.words.specs.WordLaws.{le4, word-one, word-split, word-past, word-tail}
 use Rattle.words.specs.ListLaws.{length-enc, put-enc}
-use Rattle.views.specs.View.{shortView, longView}
+use Rattle.views.specs.View.{shortView, longView, zeroView}
 
 -- two words side by side
 paste-two : (l x y : List ℕ) (i n m : ℕ) → length x ≡ n → length y ≡ m → i + n + m ≤ length l → paste (paste l i x n) (i + n) y m ≡ paste l i (x ++ y) (n + m)
@@ -78,7 +77,11 @@ unfolding longView
 long-words l v o x y k f hb h hv hk ex ey =
     rw (two-stores l o x y h, first-word v x hb hv ex, ey, enc-cat 4 4 k f hk, append-assoc (enc 4 (length v)) (pad 4 v) (enc 4 k ++ enc 4 f))
 
--- ---- the words, by the length of the value
+pub zero-words : (l : List ℕ) (o : ℕ) → o + 16 ≤ length l → putWord (putWord l o 0 8) (o + 8) 0 8 ≡ paste l o zeroView 16
+unfolding zeroView enc pad
+zero-words l o h = two-stores l o 0 0 h
+
+-- the words, by the length of the value
 
 pub few-is : (v : List ℕ) (x : ℕ) → x ≡ getD v 0 0 + 256 * getD v 1 0 + 65536 * getD v 2 0 → length v < 4 → x ≡ wordAt v 0 4
 few-is v x e h = omega (arith, le4 v 0, List·getD-eq-default v 0 {n = 3} (omega arith))

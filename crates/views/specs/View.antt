@@ -1,5 +1,5 @@
 -- View records: the fields of a view's sixteen bytes, the views of short and long values, and the view of a row. Assumes nothing.
-use mathlib.Core.List.{List, [], _∷_, _++_}
+use mathlib.Core.List.{List, [], _++_}
 use mathlib.Core.Bool.{Bool}
 use Prim.Native.Nat.{ℕ, _*_}
 use lib.Dec.{leb}

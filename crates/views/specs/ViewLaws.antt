@@ -5,20 +5,18 @@ use mathlib.Core.Bool.{Bool, true, false}
 use Prim.Native.Nat.{ℕ, zero, suc, _+_, _-_, _*_, _^_, _≤_, _<_}
 use native.Mathlib.Nat.{add-zero, zero-add, suc-add}
 use native.Mathlib.Omega.{arith}
-use borrow.Author.Tests.{lt-ltb, le-ltb, le-leb, lt-leb, leb-true, leb-false}
-use lib.Dec.{leb}
-use lib.ListN.{drop-of-length-le, length, take, drop, getD, length-append, length-take, length-drop}
-use lib.Seq.{take-nil, take-append-le, take-at, drop-at, take-all, take-take, drop-drop, length-take-le, paste, take-paste, drop-paste}
+use borrow.Author.Tests.{lt-ltb, le-ltb, le-leb, lt-leb}
+use lib.ListN.{drop-of-length-le, length, take, drop, length-append, length-drop}
+use lib.Seq.{take-nil, take-append-le, take-at, drop-at, take-all, take-take, drop-drop, length-take-le, paste, drop-paste}
 use Rattle.words.specs.Pick.{pick}
-use Rattle.words.specs.Words.{Bytes, wordAt, enc, dec, pad}
+use Rattle.words.specs.Words.{Bytes, wordAt, enc, pad}
 use Rattle.words.specs.WordLaws.{word-lt}
-use Rattle.words.specs.ListLaws.{length-enc, dec-enc, length-pad, take-pad, pad-short, take-length-pad, word-dec, word-part, bytes-part}
+use Rattle.words.specs.ListLaws.{length-enc, dec-enc, length-pad, take-pad, pad-short, take-length-pad, word-dec, word-part}
 use Rattle.bounds.specs.Bounds.{byteLimit}
 use Rattle.bounds.specs.Refusals.{refuse, ifAccepted}
 use Rattle.bounds.specs.declared.Why.{Why}
 use Rattle.bounds.specs.declared.Why.the-variants.{Accepted, Refused}
 use Rattle.bounds.specs.declared.Refusal.the-variants.{TooLong}
-use Rattle.views.specs.declared.Made.{Made}
 use Rattle.views.specs.Made.{viewWhy, makeOf}
 use Rattle.views.specs.View.{viewSize, shortMost, isShort, lengthOf, bodyOf, prefixOf, blockOf, offsetOf, shortView, longView, makeView, zeroView, viewAt}
 
@@ -26,7 +24,7 @@ use Rattle.views.specs.View.{viewSize, shortMost, isShort, lengthOf, bod
 field : (a b : List ℕ) (i n : ℕ) → length a ≡ i → n < 2 ^ 32 → wordAt (a ++ (enc 4 n ++ b)) i 4 ≡ n
 field a b i n e h = rw (word-dec (a ++ (enc 4 n ++ b)) i 4, drop-at a (enc 4 n ++ b) i e, take-at (enc 4 n) b 4 (length-enc 4 n)) (dec-enc 4 n h)
 
--- ---- parts of a list after a store
+-- parts of a list after a store
 
 drop-take : (m n : ℕ) (l : List ℕ) → drop m (take (m + n) l) ≡ take n (drop m l)
 drop-take zero n l = rw (zero-add n)
@@ -53,7 +51,7 @@ module _ (d s : List ℕ) (at n : ℕ) where
       rw (← e, ← drop-drop (k - (at + n)) (at + n) (paste d at s n), ← drop-drop (k - (at + n)) (at + n) d, drop-paste d at s n g f) in
       ap (take m) same
 
--- ---- views of short values
+-- views of short values
 
 module _ (x : List ℕ) where
   pub length-short : length (shortView x) ≡ viewSize
@@ -76,7 +74,7 @@ module _ (x : List ℕ) where
   pub short-value : length x ≤ shortMost → take (length x) (bodyOf (shortView x)) ≡ x
   short-value h = rw short-body (take-length-pad 12 x h)
 
--- ---- views of long values
+-- views of long values
 
 module _ (x : List ℕ) (b o : ℕ) where
   pub length-long : length (longView x b o) ≡ viewSize
@@ -110,7 +108,7 @@ module _ (x : List ℕ) (b o : ℕ) where
       let whole : enc 4 (length x) ++ (pad 4 x ++ (enc 4 b ++ enc 4 o)) ≡ front ++ (enc 4 o ++ []) = simp (append-assoc, append-nil) in
       rw whole (field front [] 12 o e h)
 
--- ---- the view of any value
+-- the view of any value
 
 module _ (x : List ℕ) (b o : ℕ) where
   pub make-short : length x ≤ shortMost → makeView x b o ≡ shortView x
@@ -150,7 +148,7 @@ pub zero-view : zeroView ≡ shortView []
 unfolding zeroView shortView enc pad
 zero-view = refl
 
--- ---- the view of a row, by words of all views
+-- the view of a row, by words of all views
 
 module _ (vs : List ℕ) (r : ℕ) where
   pub length-view : viewSize * r + viewSize ≤ length vs → length (viewAt vs r) ≡ viewSize
@@ -187,7 +185,7 @@ module _ (vs : List ℕ) (r : ℕ) where
   pub offset-lt : Bytes vs → offsetOf (viewAt vs r) < 2 ^ 32
   offset-lt hb = rw offset-at (word-lt vs (16 * r + 12) 4 hb)
 
--- ---- a row's view stored
+-- a row's view stored
 
 module _ (vs v : List ℕ) (r : ℕ) (len : length v ≡ viewSize) (room : viewSize * r + viewSize ≤ length vs) where
   pub view-stored : viewAt (paste vs (viewSize * r) v viewSize) r ≡ v
@@ -208,7 +206,7 @@ view-whole d v h g =
     let none : drop 16 d ≡ [] = drop-of-length-le d {i = 16} (omega arith) in
     rw (take-all 16 v (omega arith), none, append-nil v)
 
--- ---- the call that makes one
+-- the call that makes one
 
 module _ (x : List ℕ) (b o : ℕ) where
   pub made-accepted : length x ≤ byteLimit → makeOf x b o ≡ record { why = Accepted; view = makeView x b o }
@@ -226,3 +224,12 @@ module _ (x : List ℕ) (b o : ℕ) where
       by : (w : Why) → length (ifAccepted w (makeView x b o) zeroView) ≡ viewSize
       by Accepted = length-make x b o
       by (Refused r) = length-pad 16 []
+
+  -- the answer's parts
+  pub made-why : makeOf x b o .why ≡ viewWhy x
+  unfolding makeOf
+  made-why = refl
+
+  pub made-view : viewWhy x ≡ Accepted → makeOf x b o .view ≡ makeView x b o
+  unfolding makeOf
+  made-view h = rw h

@@ -4,7 +4,7 @@ ghost use Prim.Native.Nat.{_+_, _*_, _^_, _≤_, _<_};
 ghost use lib.ListN.{length};
 ghost use lib.Seq.{paste};
 ghost use Rattle.words.specs.Words.{wordAt};
-ghost use Rattle.views.specs.View.{viewSize, shortMost, viewAt, lengthOf, blockOf, offsetOf, shortView, longView, makeView};
+ghost use Rattle.views.specs.View.{viewSize, shortMost, viewAt, lengthOf, blockOf, offsetOf, shortView, longView, makeView, zeroView};
 ghost use Rattle.views.specs.Made.{makeOf};
 use bounds::Refusal;
 use bounds::Why;
@@ -100,6 +100,15 @@ pub fn short_view(b: &mut [u8], o: usize, v: &[u8])
     let hi = p.hi;
     words::put64(b, o, lo);
     words::put64(b, o + 8, hi);
+}
+
+// Writes the view of a null row into the sixteen bytes from `o` on.
+pub fn zero_view(b: &mut [u8], o: usize)
+    requires { ⌜ o + viewSize ≤ length (now b) ⌝ }
+    ensures { λ _. ⌜ now (b .exit) ≡ paste (now (b .entry)) o zeroView viewSize ⌝ }
+{
+    words::put64(b, o, 0);
+    words::put64(b, o + 8, 0);
 }
 
 // Writes the view of a long value, which stands at `offset` of a block.

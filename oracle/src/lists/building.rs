@@ -1,6 +1,8 @@
 //! Sequences of calls on one builder.
 
-use super::{FILL, MAX_BLOCKS, MAX_BYTES, MAX_MAP, buffers, head, kind, part_words, put};
+use super::{
+    FILL, MAX_BLOCKS, MAX_BYTES, MAX_MAP, buffers, head, kind, part_words, put, put_rooms,
+};
 use crate::answer::{Answer, Engine};
 use crate::by_model::ByModel;
 use crate::by_original::ByOriginal;
@@ -8,9 +10,9 @@ use crate::compare::{Verdict, states_differ, verdict};
 use crate::generate::{For, building as script};
 use crate::random::Random;
 use crate::script::{Call, Raw, Sizes};
-use model::{Growth, Merge, State};
+use model::{Growth, Kind, Merge, Rooms, State};
 
-const GROUPS: u64 = 44;
+const GROUPS: usize = 44;
 const CALLS: usize = 22;
 /// Places of a merge table at most.
 const MAX_PLACES: usize = 64;
@@ -113,24 +115,38 @@ fn column_words(call: &Call, answer: &Answer, after: &ByModel) -> [u64; 3] {
     }
 }
 
-fn group(out: &mut Vec<u8>, script: &[Call], both: bool) {
+/// A call: words 0 to 3, the bytes that go with it, and words 5 to 20, which say what comes of it.
+#[derive(Clone, Debug)]
+pub struct Step {
+    pub words: [u64; 4],
+    pub bytes: Vec<u8>,
+    pub expected: [u64; 16],
+}
+
+/// A builder's settings, the sizes of its buffers, calls on it, and its buffers afterwards.
+#[derive(Clone, Debug)]
+pub struct Group {
+    /// Original and model agree after every call.
+    pub both: bool,
+    pub kind: Kind,
+    pub growth: Growth,
+    pub merge: Merge,
+    pub sizes: Sizes,
+    pub steps: Vec<Step>,
+    pub rooms: Rooms,
+}
+
+/// Panics where the original, as far as it can be asked, answers otherwise.
+fn group(script: &[Call], both: bool) -> Group {
     let mut model = ByModel::default();
     model.fill = FILL;
     let mut original = ByOriginal::default();
-    let Call::Start(_, k, g, m, sizes) = &script[0] else {
+    let Call::Start(_, kind, growth, merge, sizes) = &script[0] else {
         panic!("a script begins with start");
     };
     original.call(&script[0]);
     model.call(&script[0]);
-    let calls = script[1..].iter().filter(|c| !matches!(c, Call::Raw(..)));
-    put(out, &[both as u64, calls.count() as u64, kind(*k)]);
-    put(out, &growth(*g));
-    put(out, &merge(*m));
-    put(
-        out,
-        &[sizes.views, sizes.data, sizes.table, sizes.map, sizes.merge].map(|n| n as u64),
-    );
-    let mut column = None;
+    let (mut column, mut steps) = (None, vec![]);
     for call in &script[1..] {
         let theirs = both.then(|| original.call(call));
         let Some((words, bytes)) = encoded(call, &mut column) else {
@@ -144,31 +160,60 @@ fn group(out: &mut Vec<u8>, script: &[Call], both: bool) {
             let agree = verdict != Verdict::Differ && !differ;
             assert!(agree, "{call:?}: original {theirs}, model {answer}");
         }
-        put(out, &words);
-        put(out, &[bytes.len() as u64]);
-        put(out, &answered(call, &answer, &model));
-        put(out, &state_words(&model.builder(0).unwrap().0));
-        put(out, &column_words(call, &answer, &model));
-        out.extend(bytes);
+        let mut expected = [0; 16];
+        expected[..6].copy_from_slice(&answered(call, &answer, &model));
+        expected[6..13].copy_from_slice(&state_words(&model.builder(0).unwrap().0));
+        expected[13..].copy_from_slice(&column_words(call, &answer, &model));
+        steps.push(Step {
+            words,
+            bytes,
+            expected,
+        });
     }
-    let rooms = &model.builder(0).unwrap().1;
-    out.extend(&rooms.views);
-    out.extend(&rooms.data);
-    for b in &rooms.table {
-        put(out, &[b.0, b.1]);
+    Group {
+        both,
+        kind: *kind,
+        growth: *growth,
+        merge: *merge,
+        sizes: *sizes,
+        steps,
+        rooms: model.builder(0).unwrap().1.clone(),
     }
-    out.extend(&rooms.map);
+}
+
+/// Groups without end: with room for all, and short of it, in turn.
+pub fn groups(seed: u64, calls: usize) -> impl Iterator<Item = Group> {
+    let mut random = Random::new(seed);
+    (0..).map(move |k| {
+        let both = k % 2 == 0;
+        let whom = if both { For::Both } else { For::Model };
+        let sizes = sizes(&mut random, both);
+        group(&script(random.word(), whom, sizes, calls), both)
+    })
 }
 
 /// building.bin.
 pub fn building(seed: u64) -> Vec<u8> {
-    let mut random = Random::new(seed);
     let mut out = vec![];
-    for k in 0..GROUPS {
-        let both = k % 2 == 0;
-        let whom = if both { For::Both } else { For::Model };
-        let sizes = sizes(&mut random, both);
-        group(&mut out, &script(random.word(), whom, sizes, CALLS), both);
+    for g in groups(seed, CALLS).take(GROUPS) {
+        put(
+            &mut out,
+            &[g.both as u64, g.steps.len() as u64, kind(g.kind)],
+        );
+        put(&mut out, &growth(g.growth));
+        put(&mut out, &merge(g.merge));
+        let s = &g.sizes;
+        put(
+            &mut out,
+            &[s.views, s.data, s.table, s.map, s.merge].map(|n| n as u64),
+        );
+        for step in g.steps {
+            put(&mut out, &step.words);
+            put(&mut out, &[step.bytes.len() as u64]);
+            put(&mut out, &step.expected);
+            out.extend(step.bytes);
+        }
+        put_rooms(&mut out, &g.rooms);
     }
     out
 }

@@ -1,4 +1,5 @@
-//! The fixed lists of answers, laid out as README.md says.
+//! The fixed lists of answers, laid out as README.md says. What they are taken from goes on without end: `groups` and
+//! the like, for whoever asks another library the same.
 
 pub mod building;
 pub mod leaves;
@@ -7,7 +8,7 @@ pub mod reading;
 pub mod shelf;
 
 use crate::script::Raw;
-use model::{Buffer, Kind, Lent, Part};
+use model::{Buffer, Kind, Lent, Part, Rooms};
 
 const MAX_BYTES: usize = 1024;
 const MAX_BLOCKS: usize = 16;
@@ -47,6 +48,16 @@ fn buffers(out: &mut Vec<u8>, raw: &Raw) {
         put(out, &[b.0, b.1]);
     }
     out.extend(&raw.map);
+}
+
+/// The buffers of a builder or an output, without the merge table.
+fn put_rooms(out: &mut Vec<u8>, rooms: &Rooms) {
+    out.extend(&rooms.views);
+    out.extend(&rooms.data);
+    for b in &rooms.table {
+        put(out, &[b.0, b.1]);
+    }
+    out.extend(&rooms.map);
 }
 
 fn kind(kind: Kind) -> u64 {

@@ -15,12 +15,12 @@ const QUESTIONS: usize = 21;
 
 /// Words 3 to 9 of a question.
 #[derive(Default, Clone, Copy, PartialEq, Eq, Debug)]
-struct Expected {
-    refusal: u64,
-    row: u64,
-    side: u64,
-    number: u64,
-    part: [u64; 3],
+pub struct Expected {
+    pub refusal: u64,
+    pub row: u64,
+    pub side: u64,
+    pub number: u64,
+    pub part: [u64; 3],
 }
 
 fn refused(r: Refusal) -> Expected {
@@ -219,7 +219,27 @@ pub fn column(random: &mut Random, damaged: bool) -> Raw {
     }
 }
 
-fn group(random: &mut Random, out: &mut Vec<u8>, valid: bool) {
+/// A question with its answer.
+#[derive(Clone, Debug)]
+pub struct Question {
+    pub call: u64,
+    pub a: u64,
+    pub b: u64,
+    pub expected: Expected,
+}
+
+/// Two columns and questions about them.
+#[derive(Clone, Debug)]
+pub struct Group {
+    /// Both columns are valid, and original and model agree.
+    pub valid: bool,
+    pub left: Raw,
+    pub right: Raw,
+    pub questions: Vec<Question>,
+}
+
+/// Panics where the original, as far as it can be asked, answers otherwise.
+fn group(random: &mut Random, valid: bool, questions: usize) -> Group {
     let left = column(random, !valid);
     let mut right = if random.once_in(3) {
         left.clone()
@@ -233,31 +253,54 @@ fn group(random: &mut Random, out: &mut Vec<u8>, valid: bool) {
     let mut original = ByOriginal::default();
     original.call(&Call::Raw(0, left.clone()));
     original.call(&Call::Raw(1, right.clone()));
-    put(out, &[valid as u64, QUESTIONS as u64]);
-    head(out, &left);
-    head(out, &right);
-    buffers(out, &left);
-    buffers(out, &right);
-    for k in 0..QUESTIONS {
+    let mut all = vec![];
+    for k in 0..questions {
         let (call, a, b) = question(random, k, &left, &right);
-        let (e, asked) = asked(call, a, b, &left, &right);
+        let (expected, asked) = asked(call, a, b, &left, &right);
         let (theirs, _) = original.call(&asked);
         // On damaged columns only what is defined for the original is compared: the check isn't.
         let compared = valid || !matches!(asked, Call::Check(_));
-        if compared && !agrees(&theirs, call, &e, &left) {
-            panic!("{asked:?}: original {theirs}, model {e:?}");
+        if compared && !agrees(&theirs, call, &expected, &left) {
+            panic!("{asked:?}: original {theirs}, model {expected:?}");
         }
-        put(out, &[call, a, b, e.refusal, e.row, e.side, e.number]);
-        put(out, &e.part);
+        all.push(Question {
+            call,
+            a,
+            b,
+            expected,
+        });
     }
+    Group {
+        valid,
+        left,
+        right,
+        questions: all,
+    }
+}
+
+/// Groups without end, valid and damaged ones in turn.
+pub fn groups(seed: u64, questions: usize) -> impl Iterator<Item = Group> {
+    let mut random = Random::new(seed);
+    (0..).map(move |k| group(&mut random, k % 2 == 0, questions))
 }
 
 /// reading.bin.
 pub fn reading(seed: u64) -> Vec<u8> {
-    let mut random = Random::new(seed);
     let mut out = vec![];
-    for k in 0..GROUPS {
-        group(&mut random, &mut out, k % 2 == 0);
+    for g in groups(seed, QUESTIONS).take(GROUPS) {
+        put(&mut out, &[g.valid as u64, g.questions.len() as u64]);
+        head(&mut out, &g.left);
+        head(&mut out, &g.right);
+        buffers(&mut out, &g.left);
+        buffers(&mut out, &g.right);
+        for q in g.questions {
+            let e = q.expected;
+            put(
+                &mut out,
+                &[q.call, q.a, q.b, e.refusal, e.row, e.side, e.number],
+            );
+            put(&mut out, &e.part);
+        }
     }
     out
 }

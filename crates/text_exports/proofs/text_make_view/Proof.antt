@@ -1,6 +1,13 @@
--- `text_exports::text_make_view` is safe and ends. Assumes nothing.
+-- `text_exports::text_make_view` meets its contract. Assumes nothing.
+use mathlib.Core.Path.{_≡_, refl, sym, ap, _∙_}
 use native.Mathlib.Omega.{arith}
-use Rattle.views.specs.ViewLaws.{length-made}
+use denote.Ref.{now}
+use lib.ListN.{length}
+use Rattle.bounds.specs.declared.Why.the-variants.{Accepted}
+use Rattle.views.specs.declared.Made.{Made}
+use Rattle.views.specs.Made.{viewWhy}
+use Rattle.views.specs.View.{makeView}
+use Rattle.views.specs.ViewLaws.{length-made, made-why, made-view, view-whole, length-make}
 use borrow.Author.Needs.{needs}
 use Rattle.text_exports.proofs.text_make_view.Statement.{statement}
 use Rattle.text_exports.proofs.text_make_view.Tie as tie
@@ -15,8 +22,7 @@ slice-aggregate-copy16 : tie.Need-slice-aggregate-copy16
 slice-aggregate-copy16 c = search needs
 
 copy16-requires : tie.Need-copy16-requires
-copy16-requires c κs =
-    (search needs, rw (c .before .before .before .before .before .make-view .ensures, length-made) (omega arith))
+copy16-requires c κs = (search needs, rw (c .before .before .before .before .before .make-view .ensures, length-made) (omega arith))
 
 enum-known-why : tie.Need-enum-known-why
 enum-known-why c = search needs
@@ -25,10 +31,22 @@ number-requires : tie.Need-number-requires
 number-requires c κs = search needs
 
 returns : tie.Need-returns
-returns c = search needs
+returns c =
+    let a = c .before .before .before .before .before .before .before .before .args in
+    let x = now (a .v) in
+    let m = c .before .before .before .before .before .before .make-view .ensures in
+    let why : viewWhy x ≡ Accepted = sym (made-why x (a .block) (a .offset)) ∙ sym (ap (λ (r : Made). r .why) m) ∙ c .before .before .before .before .enum-told .given .1 in
+    let view = ap (λ (r : Made). r .view) m ∙ made-view x (a .block) (a .offset) why in
+    let len : length (now (a .out)) ≡ 16 = search needs in
+    rw why (refl, c .copy16 .ensures ∙ rw view (view-whole (now (a .out)) (makeView x (a .block) (a .offset)) len (length-make x (a .block) (a .offset))))
 
 returns-2 : tie.Need-returns-2
-returns-2 c = search needs
+returns-2 c =
+    let a = c .before .before .before .before .before .before .args in
+    let x = now (a .v) in
+    let m = c .before .before .before .before .make-view .ensures in
+    let why = sym (made-why x (a .block) (a .offset)) ∙ sym (ap (λ (r : Made). r .why) m) ∙ c .before .before .why .given .1 in
+    rw why (c .number .ensures, refl)
 
 pub text-make-view-spec : {M : Type 1} → statement M
 text-make-view-spec =

@@ -1,8 +1,8 @@
 -- `utf8::ascii` meets its contract. Assumes nothing.
-use Prim.Native.Nat.{_+_, _-_, _≤_}
+use Prim.Native.Nat.{_-_}
 use native.Mathlib.Omega.{arith}
 use denote.Ref.{now}
-use lib.ListN.{length, drop}
+use lib.ListN.{length}
 use Rattle.utf8.specs.Lead.{Passed}
 use Rattle.utf8.proofs.Laws.{ascii-one, moved}
 use Rattle.utf8.proofs.ascii.Statement.{statement}

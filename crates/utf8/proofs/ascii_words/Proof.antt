@@ -1,9 +1,9 @@
 -- `utf8::ascii_words` meets its contract. Assumes nothing.
-use Prim.Native.Nat.{_+_, _-_, _≤_}
-use mathlib.Core.Path.{_≡_, refl}
+use Prim.Native.Nat.{_-_}
+use mathlib.Core.Path.{refl}
 use native.Mathlib.Omega.{arith}
 use denote.Ref.{now}
-use lib.ListN.{length, drop}
+use lib.ListN.{length}
 use Rattle.words.specs.Words.{Bytes}
 use Rattle.utf8.specs.Lead.{Passed}
 use Rattle.utf8.proofs.Laws.{sixteen}

@@ -2,8 +2,8 @@
 use Rattle.utf8.specs.Table.{firstBad}
 use Prim.Native.Nat.{_+_, _-_, _≤_}
 use lib.ListN.{length, drop}
-use Rattle.utf8.proofs.Laws.{ascii-one, bad-step, bad-here, bad-end}
-use mathlib.Core.Path.{_≡_, refl, sym, _∙_, ap}
+use Rattle.utf8.proofs.Laws.{bad-step, bad-here, bad-end}
+use mathlib.Core.Path.{_≡_, sym, _∙_}
 use denote.Ref.{now}
 use native.Mathlib.Omega.{arith}
 use borrow.Author.Needs.{needs}

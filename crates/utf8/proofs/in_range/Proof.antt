@@ -3,9 +3,7 @@ use Rattle.utf8.specs.Table.{within}
 use Rattle.utf8.specs.Text.{under}
 use borrow.Author.Tests.{le-leb}
 use mathlib.Core.Path.{sym}
-use denote.Ref.{now}
 use native.Mathlib.Omega.{arith}
-use borrow.Author.Needs.{needs}
 use Rattle.utf8.proofs.in_range.Statement.{statement}
 use Rattle.utf8.proofs.in_range.Tie as tie
 

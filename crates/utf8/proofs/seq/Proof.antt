@@ -3,7 +3,7 @@ use Rattle.utf8.specs.Table.{fits, ledBy}
 use Rattle.utf8.specs.Lead.{tails}
 use Rattle.utf8.specs.declared.Lead.the-variants.{One, Bad}
 use Rattle.utf8.proofs.Laws.{front-at}
-use mathlib.Core.Path.{_≡_, refl, sym, _∙_, ap}
+use mathlib.Core.Path.{sym, _∙_, ap}
 use denote.Ref.{now}
 use native.Mathlib.Omega.{arith}
 use borrow.Author.Needs.{needs}

@@ -2,7 +2,7 @@
 use Rattle.views.proofs.Laws.{long-words}
 use Prim.Native.Nat.{_+_, _*_}
 use lib.ListN.{length}
-use mathlib.Core.Path.{_≡_, refl}
+use mathlib.Core.Path.{refl}
 use denote.Ref.{now}
 use native.Mathlib.Omega.{arith}
 use borrow.Author.Needs.{needs}

@@ -2,7 +2,7 @@
 use mathlib.Core.Path.{refl, sym, _∙_}
 use native.Mathlib.Omega.{arith}
 use denote.Ref.{now}
-use Rattle.bounds.specs.Bounds.{byte-limit-is, byte-limit-small}
+use Rattle.bounds.specs.Bounds.{byte-limit-is}
 use Rattle.words.specs.Words.{pad}
 use Rattle.views.specs.View.{makeView, zeroView}
 use Rattle.views.specs.ViewLaws.{made-refused, made-accepted, view-whole, length-make}

@@ -1,6 +1,5 @@
 -- `views::short_view` meets its contract. Assumes nothing.
 use Rattle.views.proofs.Laws.{two-words}
-use mathlib.Core.Path.{_≡_, ap, _∙_}
 use denote.Ref.{now}
 use native.Mathlib.Omega.{arith}
 use borrow.Author.Needs.{needs}

@@ -1,6 +1,5 @@
 -- `Growth::step` meets its contract. Assumes nothing.
-use mathlib.Core.Path.{sym, _∙_}
-use native.Mathlib.Omega.{arith}
+use mathlib.Core.Path.{sym}
 use Rattle.growth.specs.GrowthLaws.{not-true, not-false, doubling-most, step-refused, step-fixed, step-doubling}
 use borrow.Author.Needs.{needs}
 use Rattle.growth.proofs.Growth.step.Statement.{statement}

@@ -37,11 +37,40 @@ typedef struct {
     size_t len;
 } tambuyeel_place;
 
+/* A number: 0 or the refusal's number, and what was asked for. */
+typedef struct {
+    uint64_t refused;
+    size_t number;
+} tambuyeel_counted;
+
+/* Rows of a column: 0 or the refusal's number, the first row, how many. */
+typedef struct {
+    uint64_t refused;
+    size_t first;
+    size_t rows;
+} tambuyeel_run;
+
 /* Which bytes a row's value is, the null bit ignored; refused with 2, 3 or 11 the other numbers are 0. */
 tambuyeel_place tambuyeel_value(TAMBUYEEL_COLUMN(), size_t row);
 
+/* Which bytes are the first n or the last n of a row's value; none where it has fewer (len is 0 then). Refused as tambuyeel_value is. */
+tambuyeel_place tambuyeel_prefix(TAMBUYEEL_COLUMN(), size_t row, size_t n);
+tambuyeel_place tambuyeel_suffix(TAMBUYEEL_COLUMN(), size_t row, size_t n);
+
 /* Whether a row's value can be read: 0, or 2, 3, 11. */
 uint8_t tambuyeel_why_value(TAMBUYEEL_COLUMN(), size_t row);
+
+/* A row's length, as its view says it; a row's null bit: 1 valid, 0 null. Refused with 2 or 3 the number is 0. */
+tambuyeel_counted tambuyeel_length(TAMBUYEEL_COLUMN(), size_t row);
+tambuyeel_counted tambuyeel_null_bit(TAMBUYEEL_COLUMN(), size_t row);
+
+/* The nulls among count rows from start on, and the column of these rows over the same buffers. Refused with 2 or 3 the other numbers are 0. */
+tambuyeel_counted tambuyeel_null_run(TAMBUYEEL_COLUMN(), size_t start, size_t count);
+tambuyeel_run tambuyeel_slice(TAMBUYEEL_COLUMN(), size_t start, size_t count);
+
+/* The lengths of all rows that aren't null; the lengths of all long rows, null ones too. Refused with 2 the number is 0. */
+tambuyeel_counted tambuyeel_total_bytes_len(TAMBUYEEL_COLUMN());
+tambuyeel_counted tambuyeel_total_buffer_bytes_used(TAMBUYEEL_COLUMN());
 
 /* The validity check: 0, or 2, 11 (the lowest row whose view isn't true), 9. */
 tambuyeel_told tambuyeel_check(TAMBUYEEL_COLUMN());

@@ -102,6 +102,14 @@ macro_rules! declared {
 declared! {
     tambuyeel_why_value()(row) -> u8;
     tambuyeel_value(out: *mut Place)(row);
+    tambuyeel_prefix(out: *mut Place)(row, n);
+    tambuyeel_suffix(out: *mut Place)(row, n);
+    tambuyeel_length()(row) -> Counted;
+    tambuyeel_null_bit()(row) -> Counted;
+    tambuyeel_null_run()(start, count) -> Counted;
+    tambuyeel_slice(out: *mut Run)(start, count);
+    tambuyeel_total_bytes_len()() -> Counted;
+    tambuyeel_total_buffer_bytes_used()() -> Counted;
     tambuyeel_check()() -> Told;
     tambuyeel_count_less()() -> u64;
     tambuyeel_read_all()() -> u64;
@@ -154,6 +162,44 @@ impl Lent {
         let mut out = Place::default();
         lent!(tambuyeel_value(&mut out), self, (row));
         out
+    }
+
+    pub fn prefix(&self, row: usize, n: usize) -> Place {
+        let mut out = Place::default();
+        lent!(tambuyeel_prefix(&mut out), self, (row, n));
+        out
+    }
+
+    pub fn suffix(&self, row: usize, n: usize) -> Place {
+        let mut out = Place::default();
+        lent!(tambuyeel_suffix(&mut out), self, (row, n));
+        out
+    }
+
+    pub fn length(&self, row: usize) -> Counted {
+        lent!(tambuyeel_length(), self, (row))
+    }
+
+    pub fn null_bit(&self, row: usize) -> Counted {
+        lent!(tambuyeel_null_bit(), self, (row))
+    }
+
+    pub fn null_run(&self, start: usize, count: usize) -> Counted {
+        lent!(tambuyeel_null_run(), self, (start, count))
+    }
+
+    pub fn slice(&self, start: usize, count: usize) -> Run {
+        let mut out = Run::default();
+        lent!(tambuyeel_slice(&mut out), self, (start, count));
+        out
+    }
+
+    pub fn total_bytes_len(&self) -> Counted {
+        lent!(tambuyeel_total_bytes_len(), self, ())
+    }
+
+    pub fn total_buffer_bytes_used(&self) -> Counted {
+        lent!(tambuyeel_total_buffer_bytes_used(), self, ())
     }
 
     pub fn check(&self) -> Told {

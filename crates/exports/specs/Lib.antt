@@ -1,2 +1,4 @@
 pub mod Exported
+pub mod Parts
+pub mod PartLaws
 pub mod PlaceLaws

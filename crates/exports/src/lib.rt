@@ -21,6 +21,8 @@ use comparison::Compared;
 use comparison::Sameness;
 use order::Order;
 
+pub mod parts;
+
 // An answer beside the row that refusal 11 names.
 #[repr(C)]
 pub struct Told {
@@ -35,6 +37,21 @@ pub struct Place {
     pub buffer: u64,
     pub offset: usize,
     pub len: usize,
+}
+
+// A number: the refusal's number or 0, and what was asked for.
+#[repr(C)]
+pub struct Counted {
+    pub refused: u64,
+    pub number: usize,
+}
+
+// Rows of a column: the refusal's number or 0, the first row, how many.
+#[repr(C)]
+pub struct Run {
+    pub refused: u64,
+    pub first: usize,
+    pub rows: usize,
 }
 
 // The number of a place, 0 past the end.

@@ -1,66 +1,84 @@
-//! compare SEED GROUPS: asks the static library what `oracle::lists::reading` asks, and holds its answers against the expected ones, which
-//! are the original's and the model's on valid columns and the model's on damaged ones. Fails where one differs.
+//! compare SEED GROUPS: asks the static library what `oracle::lists::reading` asks, and holds its answers against the expected ones: on valid
+//! columns the original's and the model's, on damaged ones and on refusals the model's. Fails where one differs.
 
 use oracle::by_original::quiet;
-use oracle::lists::reading::{Expected, Question, groups};
-use reading::{Lent, Place, Told};
+use oracle::lists::reading::{Group, Question, groups};
+use reading::{Counted, Lent, Place};
 use std::collections::BTreeMap;
 use std::process::exit;
 
 /// Questions of each group.
 const QUESTIONS: usize = 64;
 
-const NAMES: [&str; 14] = [
-    "", "value", "prefix", "suffix", "length", "null_bit", "null_run", "slice", "total_bytes_len", "total_buffer_bytes_used", "compare",
-    "check", "same_column", "why_value",
-];
-
-/// What is compared of a question: the refusal, which column it is of and the row, the number, the part. Zeros where there is none.
+/// An answer: the refusal, which of two columns it is of (1 the left one) and the row that it names; a number; a part, or a slice's rows.
 type Said = (u64, u64, u64, u64, [u64; 3]);
 
+fn counted(x: Counted) -> Said {
+    (x.refused, 0, 0, x.number as u64, [0; 3])
+}
+
+/// An empty part is nowhere.
 fn placed(p: Place) -> Said {
     let part = if p.len == 0 { [0; 3] } else { [p.buffer + 1, p.offset as u64, p.len as u64] };
     (p.refused, 0, 0, 0, part)
 }
 
-/// An answer of two columns: below 16 it is one, above the refusal and 16 for the left column, 32 for the right one.
+/// An answer about two columns: below 16 the number, above it the refusal and 16 for the left column, 32 for the right one.
 fn of_two(number: u64, row: usize) -> Said {
     if number < 16 { (0, 0, 0, number, [0; 3]) } else { (number % 16, number / 16, row as u64, 0, [0; 3]) }
 }
 
-/// Our answer, or None where the call isn't exported.
-fn ours(q: &Question, left: &Lent, right: &Lent) -> Option<Said> {
+/// The exported calls that answer a question, by their names.
+fn ours(q: &Question, left: &Lent, right: &Lent) -> Vec<(&'static str, Said)> {
     let (a, b) = (q.a as usize, q.b as usize);
-    Some(match q.call {
-        1 | 13 => placed(left.value(a)),
-        10 => of_two(left.compare(a, right, b), 0),
+    match q.call {
+        2 => vec![("prefix", placed(left.prefix(a, b)))],
+        3 => vec![("suffix", placed(left.suffix(a, b)))],
+        4 => vec![("length", counted(left.length(a)))],
+        5 => vec![("null_bit", counted(left.null_bit(a)))],
+        6 => vec![("null_run", counted(left.null_run(a, b)))],
+        7 => {
+            let s = left.slice(a, b);
+            vec![("slice", (s.refused, 0, 0, s.first as u64, [0, 0, s.rows as u64]))]
+        }
+        8 => vec![("total_bytes_len", counted(left.total_bytes_len()))],
+        9 => vec![("total_buffer_bytes_used", counted(left.total_buffer_bytes_used()))],
+        10 => vec![("compare", of_two(left.compare(a, right, b), 0))],
         11 => {
-            let Told { number, row } = left.check();
-            (number, 0, row as u64, 0, [0; 3])
+            let told = left.check();
+            vec![("check", (told.number, 0, told.row as u64, 0, [0; 3]))]
         }
         12 => {
-            let Told { number, row } = left.same_column(right);
-            of_two(number, row)
+            let told = left.same_column(right);
+            vec![("same_column", of_two(told.number, told.row))]
         }
-        _ => return None,
-    })
+        // A step of the row walk asks for its place's value.
+        _ => {
+            let why = left.why_value(a) as u64;
+            vec![("value", placed(left.value(a))), ("why_value", (why, 0, 0, 0, [0; 3]))]
+        }
+    }
 }
 
-/// The expected answer in the same form: the walk's place isn't asked, a row only of the check and of same column.
-fn theirs(q: &Question, side: u64) -> Said {
-    let Expected { refusal, row, number, part, .. } = q.expected;
-    let number = if q.call == 13 { 0 } else { number };
-    let row = if q.call == 11 || q.call == 12 { row } else { 0 };
-    (refusal, side, row, number, part)
-}
-
-/// Which column is refused, 1 the left and 2 the right one: with 11 the question says it, with 2 and 3 the first that the model refuses.
-fn refused_side(q: &Question, fits: impl Fn(u64) -> bool) -> u64 {
+/// Which of two columns is refused. With 11 the question says it; with 2 it is the left one unless that fits, with 3 unless the row is there.
+fn side(q: &Question, g: &Group) -> u64 {
+    let raw = &g.left;
+    let lent = model::Lent { views: &raw.views, data: &raw.data, table: &raw.table, map: &raw.map };
     match (q.call, q.expected.refusal) {
         (10 | 12, 11) => q.expected.side,
-        (10 | 12, 2 | 3) => if fits(1) { 2 } else { 1 },
+        (10 | 12, 2) => 1 + model::slice(&lent, &raw.column, 0, 0).is_ok() as u64,
+        (10 | 12, 3) => 1 + (q.a < raw.column.rows) as u64,
         _ => 0,
     }
+}
+
+/// The expected answer as far as the call gives it: rows are named by the check and by same column alone.
+fn expected(name: &str, q: &Question, g: &Group) -> Said {
+    let e = &q.expected;
+    let row = if name == "check" || name == "same_column" { e.row } else { 0 };
+    let number = if q.call == 13 { 0 } else { e.number };
+    let part = if name == "why_value" { [0; 3] } else { e.part };
+    (e.refusal, side(q, g), row, number, part)
 }
 
 #[derive(Default)]
@@ -71,15 +89,39 @@ struct Tally {
     first: Option<String>,
 }
 
-impl Tally {
-    fn add(&mut self, refused: bool, same: bool, text: impl FnOnce() -> String) {
-        self.calls += 1;
-        self.refused += refused as u64;
-        if !same {
-            self.different += 1;
-            self.first.get_or_insert_with(text);
+/// By the call's name and whether the columns are valid.
+type Tallies = BTreeMap<(&'static str, bool), Tally>;
+
+fn ask(k: usize, g: &Group, tallies: &mut Tallies) {
+    let (left, right) = (Lent::of_raw(&g.left), Lent::of_raw(&g.right));
+    for q in &g.questions {
+        for (name, x) in ours(q, &left, &right) {
+            let y = expected(name, q, g);
+            let t = tallies.entry((name, g.valid)).or_default();
+            t.calls += 1;
+            t.refused += (q.expected.refusal > 0) as u64;
+            if x != y {
+                t.different += 1;
+                t.first.get_or_insert_with(|| format!("group {k}, {q:?}: ours {x:?}, expected {y:?}"));
+            }
         }
     }
+}
+
+fn report(tallies: &Tallies) -> u64 {
+    let (mut calls, mut refused, mut different) = (0, 0, 0);
+    for ((name, valid), t) in tallies {
+        let columns = if *valid { "valid" } else { "damaged" };
+        println!("{name}, {columns} columns: {} calls, {} refused, {} different", t.calls, t.refused, t.different);
+        if let Some(text) = &t.first {
+            println!("  first: {text}");
+        }
+        calls += t.calls;
+        refused += t.refused;
+        different += t.different;
+    }
+    println!("{calls} calls, {refused} refused, {different} different");
+    different
 }
 
 fn main() {
@@ -89,46 +131,11 @@ fn main() {
         exit(2);
     };
     quiet();
-    let mut tallies: BTreeMap<(u64, bool), Tally> = BTreeMap::new();
+    let mut tallies = Tallies::new();
     for (k, g) in groups(seed, QUESTIONS).take(count as usize).enumerate() {
-        let (left, right) = (Lent::of_raw(&g.left), Lent::of_raw(&g.right));
-        let (l, r) = (model::Lent { views: &g.left.views, data: &g.left.data, table: &g.left.table, map: &g.left.map }, &g.left.column);
-        for q in &g.questions {
-            let refused = q.expected.refusal > 0;
-            let left_fits = |_| match q.expected.refusal {
-                2 => model::slice(&l, r, 0, 0).is_ok(),
-                _ => q.a < r.rows,
-            };
-            if let Some(x) = ours(q, &left, &right) {
-                let y = theirs(q, refused_side(q, left_fits));
-                let text = || format!("group {k}, {q:?}: ours {x:?}, expected {y:?}");
-                tallies.entry((q.call, g.valid)).or_default().add(refused, x == y, text);
-            }
-            if q.call == 1 || q.call == 13 {
-                let why = left.why_value(q.a as usize) as u64;
-                let text = || format!("group {k}, {q:?}: ours {why}");
-                tallies.entry((14, g.valid)).or_default().add(refused, why == q.expected.refusal, text);
-            }
-        }
+        ask(k, &g, &mut tallies);
     }
-    let _ = NAMES;
-    report(&tallies);
-}
-
-fn report(tallies: &BTreeMap<(u64, bool), Tally>) {
-    let (mut calls, mut refused, mut different) = (0, 0, 0);
-    for ((call, valid), t) in tallies {
-        let columns = if *valid { "valid" } else { "damaged" };
-        println!("{} of {columns} columns: {} calls, {} refused, {} different", call, t.calls, t.refused, t.different);
-        if let Some(text) = &t.first {
-            println!("  first: {text}");
-        }
-        calls += t.calls;
-        refused += t.refused;
-        different += t.different;
-    }
-    println!("{calls} calls, {refused} refused, {different} different");
-    if different > 0 {
+    if report(&tallies) > 0 {
         exit(1);
     }
 }

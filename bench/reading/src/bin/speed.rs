@@ -163,6 +163,21 @@ fn comparison() {
     }
 }
 
+fn totals() {
+    for (name, null) in [("total_bytes_len, no map", 0), ("total_bytes_len, one row in 5 null", 5)] {
+        rows(name, 1.0, |name, target, n| {
+            let a = binary(n, 0, 40, null);
+            let l = lent(&a);
+            row(name, target, n, &mut || l.total_bytes_len().number as u64, &mut || a.total_bytes_len() as u64)
+        });
+    }
+    rows("total_buffer_bytes_used", 1.0, |name, target, n| {
+        let a = binary(n, 0, 40, 0);
+        let l = lent(&a);
+        row(name, target, n, &mut || l.total_buffer_bytes_used().number as u64, &mut || a.total_buffer_bytes_used() as u64)
+    });
+}
+
 fn checks() {
     for (name, from, to) in [("check of Binary, 0 to 12 bytes", 0, 12), ("check of Binary, 13 to 40 bytes", 13, 40), ("check of Binary, 0 to 40 bytes", 0, 40)] {
         rows(name, 1.2, |name, target, n| {
@@ -185,5 +200,6 @@ fn main() {
     println!("| work | best | median | target | ours, ns a row | Rust, ns a row |\n|---|---|---|---|---|---|");
     reading();
     comparison();
+    totals();
     checks();
 }

@@ -1,0 +1,83 @@
+-- A place of a row's value lies in its buffer, and its first and last bytes are the value's. Assumes nothing.
+use mathlib.Core.Path.{_≡_, refl, sym, ap, _∙_}
+use mathlib.Core.Bool.{Bool, true, false}
+use mathlib.Core.List.{List, []}
+use Prim.Native.Nat.{ℕ, _+_, _-_, _*_, _≤_, _<_}
+use native.Mathlib.Omega.{arith}
+use borrow.Author.Tests.{le-leb, lt-leb, leb-true, leb-false}
+use lib.Dec.{eqb, leb}
+use lib.ListN.{length, take, drop, getD, length-drop}
+use lib.Seq.{take-take, drop-drop, length-take-le}
+use Rattle.words.specs.Pick.{pick}
+use Rattle.bounds.specs.Bounds.{row-limit-is, byteLimit, byte-limit-is}
+use Rattle.bounds.specs.Refusals.{isAccepted}
+use Rattle.bounds.specs.declared.Why.{Why}
+use Rattle.bounds.specs.declared.Why.the-variants.{Accepted, Refused}
+use Rattle.views.specs.View.{viewSize, shortMost, isShort, lengthOf, blockOf, offsetOf, viewAt}
+use Rattle.column.specs.declared.Block.{Block}
+use Rattle.column.specs.declared.Column.{Column}
+use Rattle.column.specs.Lent.{Lent, lent, blockAt}
+use Rattle.column.specs.FitLaws.{fits-gives, table-at}
+use Rattle.column.specs.ReachLaws.{reach-gives}
+use Rattle.reading.specs.Reading.{whyValue}
+use Rattle.reading.specs.ReadingLaws.{value-readable}
+use Rattle.exports.specs.Exported.{place, placeOf, placeWhen, placeAt}
+use Rattle.exports.specs.Parts.{prefixPlace, suffixPlace}
+use Rattle.exports.specs.declared.Place.{Place}
+
+module _ (n : ℕ) (p q : Place) (e : p ≡ q) where
+  pub prefix-none : p .len < n → place (p .refused) (p .buffer) (p .offset) 0 ≡ prefixPlace n q
+  unfolding prefixPlace
+  prefix-none h = rw (← e, lt-leb n (p .len) h)
+
+  pub prefix-some : n ≤ p .len → place (p .refused) (p .buffer) (p .offset) n ≡ prefixPlace n q
+  unfolding prefixPlace
+  prefix-some h = rw (← e, le-leb n (p .len) h)
+
+  pub suffix-none : p .len < n → place (p .refused) (p .buffer) (p .offset) 0 ≡ suffixPlace n q
+  unfolding suffixPlace
+  suffix-none h = rw (← e, lt-leb n (p .len) h) (ap (λ (o : ℕ). place (p .refused) (p .buffer) o 0) none)
+    where
+      none : p .offset ≡ p .offset + 0
+      none = omega arith
+
+  pub suffix-some : n ≤ p .len → place (p .refused) (p .buffer) (p .offset + (p .len - n)) n ≡ suffixPlace n q
+  unfolding suffixPlace
+  suffix-some h = rw (← e, le-leb n (p .len) h)
+
+module _ (views bytes starts lens nulls : List ℕ) (c : Column) (r : ℕ) where
+  abbrev whole : Lent
+  whole = lent views bytes starts lens nulls
+
+  abbrev view : List ℕ
+  view = viewAt views (c .first + r)
+
+  ends-accepted : isAccepted (whyValue whole c r) ≡ true → placeOf whole view (c .first + r) .offset + placeOf whole view (c .first + r) .len ≤ byteLimit
+  unfolding placeOf
+  ends-accepted a = by (isShort (lengthOf view)) refl
+    where
+      by : (t : Bool) → isShort (lengthOf view) ≡ t → placeOf whole view (c .first + r) .offset + placeOf whole view (c .first + r) .len ≤ byteLimit
+      by true e =
+          let p = value-readable whole c r a in
+          let g = fits-gives views bytes starts lens nulls c (p .fit) in
+          let short = leb-true (lengthOf view) shortMost e in
+          rw e (omega (arith, row-limit-is, byte-limit-is))
+      by false e =
+          let p = value-readable whole c r a in
+          let g = fits-gives views bytes starts lens nulls c (p .fit) in
+          let long = leb-false (lengthOf view) shortMost e in
+          let span = reach-gives views bytes starts lens nulls (c .blocks) view (g .starts) (g .lens) long (p .reach) in
+          let start : blockAt whole (blockOf view) .start ≡ getD starts (blockOf view) 0 = ap (λ (x : Block). x .start) (table-at starts lens (blockOf view) (omega arith) (omega arith)) in
+          rw (e, start) (omega arith)
+
+  ends-there : placeAt whole c r .offset + placeAt whole c r .len ≤ byteLimit
+  unfolding placeAt
+  ends-there = by (whyValue whole c r) refl
+    where
+      by : (w : Why) → whyValue whole c r ≡ w → placeWhen w (placeOf whole view (c .first + r)) .offset + placeWhen w (placeOf whole view (c .first + r)) .len ≤ byteLimit
+      by Accepted e = ends-accepted (rw e)
+      by (Refused x) e = omega arith
+
+  -- no part of a place is past the byte limit
+  pub place-ends : (p : Place) → p ≡ placeAt whole c r → p .offset + p .len ≤ byteLimit
+  place-ends p e = rw e ends-there

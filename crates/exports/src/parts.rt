@@ -1,0 +1,269 @@
+// A row's prefix, suffix, length and null bit, the nulls of a run, slices and totals, for C and Rust.
+ghost use mathlib.Core.Path.{_≡_};
+ghost use Rattle.column.specs.Lent.{lent};
+ghost use Rattle.reading.specs.Reading as spec;
+ghost use Rattle.exports.specs.Exported.{columnOf, placeAt};
+ghost use Rattle.exports.specs.Parts.{numberTold, bitTold, sliceTold, prefixPlace, suffixPlace};
+use crate::Counted;
+use crate::Place;
+use crate::Run;
+use reading::Bit;
+use reading::Number;
+use reading::Sliced;
+
+fn told_number(n: Number) -> Counted
+    ensures { λ r. ⌜ r ≡ numberTold n ⌝ }
+{
+    match n {
+        Number::Is(x) => return Counted {
+            refused: 0,
+            number: x,
+        },
+        Number::Refused(r) => return Counted {
+            refused: bounds::number(r) as u64,
+            number: 0,
+        },
+    }
+}
+
+fn told_bit(b: Bit) -> Counted
+    ensures { λ r. ⌜ r ≡ bitTold b ⌝ }
+{
+    match b {
+        Bit::Null => return Counted {
+            refused: 0,
+            number: 0,
+        },
+        Bit::Valid => return Counted {
+            refused: 0,
+            number: 1,
+        },
+        Bit::Refused(r) => return Counted {
+            refused: bounds::number(r) as u64,
+            number: 0,
+        },
+    }
+}
+
+fn told_slice(s: Sliced) -> Run
+    ensures { λ r. ⌜ r ≡ sliceTold s ⌝ }
+{
+    match s {
+        Sliced::Is(c) => return Run {
+            refused: 0,
+            first: c.first,
+            rows: c.rows,
+        },
+        Sliced::Refused(r) => return Run {
+            refused: bounds::number(r) as u64,
+            first: 0,
+            rows: 0,
+        },
+    }
+}
+
+// The length of a row's value.
+#[no_mangle]
+pub extern "C" fn tambuyeel_length(
+    views: &[u8],
+    bytes: &[u8],
+    starts: &[usize],
+    lens: &[usize],
+    nulls: &[u8],
+    column: &[usize],
+    row: usize,
+) -> Counted
+    ensures { λ r. ⌜ r ≡ numberTold (spec.lengthAt (lent (now (views .entry)) (now (bytes .entry)) (now (starts .entry)) (now (lens .entry)) (now (nulls .entry))) (columnOf (now (column .entry))) row) ⌝ }
+{
+    told_number(reading::length(
+        views,
+        bytes,
+        starts,
+        lens,
+        nulls,
+        crate::column_of(column),
+        row,
+    ))
+}
+
+// 1 where a row is valid, 0 where it is null.
+#[no_mangle]
+pub extern "C" fn tambuyeel_null_bit(
+    views: &[u8],
+    bytes: &[u8],
+    starts: &[usize],
+    lens: &[usize],
+    nulls: &[u8],
+    column: &[usize],
+    row: usize,
+) -> Counted
+    ensures { λ r. ⌜ r ≡ bitTold (spec.bitOf (lent (now (views .entry)) (now (bytes .entry)) (now (starts .entry)) (now (lens .entry)) (now (nulls .entry))) (columnOf (now (column .entry))) row) ⌝ }
+{
+    told_bit(reading::null_bit(
+        views,
+        bytes,
+        starts,
+        lens,
+        nulls,
+        crate::column_of(column),
+        row,
+    ))
+}
+
+// How many of the rows from `start` on, `count` of them, are null.
+#[no_mangle]
+pub extern "C" fn tambuyeel_null_run(
+    views: &[u8],
+    bytes: &[u8],
+    starts: &[usize],
+    lens: &[usize],
+    nulls: &[u8],
+    column: &[usize],
+    start: usize,
+    count: usize,
+) -> Counted
+    ensures { λ r. ⌜ r ≡ numberTold (spec.nullRun (lent (now (views .entry)) (now (bytes .entry)) (now (starts .entry)) (now (lens .entry)) (now (nulls .entry))) (columnOf (now (column .entry))) start count) ⌝ }
+{
+    told_number(reading::null_run(
+        views,
+        bytes,
+        starts,
+        lens,
+        nulls,
+        crate::column_of(column),
+        start,
+        count,
+    ))
+}
+
+// The rows from `start` on, `count` of them: the first row and the rows of a column that is otherwise the same.
+#[no_mangle]
+pub extern "C" fn tambuyeel_slice(
+    views: &[u8],
+    bytes: &[u8],
+    starts: &[usize],
+    lens: &[usize],
+    nulls: &[u8],
+    column: &[usize],
+    start: usize,
+    count: usize,
+) -> Run
+    ensures { λ r. ⌜ r ≡ sliceTold (spec.slice (lent (now (views .entry)) (now (bytes .entry)) (now (starts .entry)) (now (lens .entry)) (now (nulls .entry))) (columnOf (now (column .entry))) start count) ⌝ }
+{
+    told_slice(reading::slice(
+        views,
+        bytes,
+        starts,
+        lens,
+        nulls,
+        crate::column_of(column),
+        start,
+        count,
+    ))
+}
+
+// The lengths of the rows that aren't null, short and long.
+#[no_mangle]
+pub extern "C" fn tambuyeel_total_bytes_len(
+    views: &[u8],
+    bytes: &[u8],
+    starts: &[usize],
+    lens: &[usize],
+    nulls: &[u8],
+    column: &[usize],
+) -> Counted
+    ensures { λ r. ⌜ r ≡ numberTold (spec.totalBytesLen (lent (now (views .entry)) (now (bytes .entry)) (now (starts .entry)) (now (lens .entry)) (now (nulls .entry))) (columnOf (now (column .entry)))) ⌝ }
+{
+    told_number(reading::total_bytes_len(
+        views,
+        bytes,
+        starts,
+        lens,
+        nulls,
+        crate::column_of(column),
+    ))
+}
+
+// The lengths of the long rows, null ones too.
+#[no_mangle]
+pub extern "C" fn tambuyeel_total_buffer_bytes_used(
+    views: &[u8],
+    bytes: &[u8],
+    starts: &[usize],
+    lens: &[usize],
+    nulls: &[u8],
+    column: &[usize],
+) -> Counted
+    ensures { λ r. ⌜ r ≡ numberTold (spec.totalBufferBytesUsed (lent (now (views .entry)) (now (bytes .entry)) (now (starts .entry)) (now (lens .entry)) (now (nulls .entry))) (columnOf (now (column .entry)))) ⌝ }
+{
+    told_number(reading::total_buffer_bytes_used(
+        views,
+        bytes,
+        starts,
+        lens,
+        nulls,
+        crate::column_of(column),
+    ))
+}
+
+// Which bytes of which buffer the first n bytes of a row's value are; none where it has fewer.
+#[no_mangle]
+pub extern "C" fn tambuyeel_prefix(
+    views: &[u8],
+    bytes: &[u8],
+    starts: &[usize],
+    lens: &[usize],
+    nulls: &[u8],
+    column: &[usize],
+    row: usize,
+    n: usize,
+) -> Place
+    ensures { λ r. ⌜ r ≡ prefixPlace n (placeAt (lent (now (views .entry)) (now (bytes .entry)) (now (starts .entry)) (now (lens .entry)) (now (nulls .entry))) (columnOf (now (column .entry))) row) ⌝ }
+{
+    let p = crate::tambuyeel_value(views, bytes, starts, lens, nulls, column, row);
+    if p.len < n {
+        return Place {
+            refused: p.refused,
+            buffer: p.buffer,
+            offset: p.offset,
+            len: 0,
+        };
+    }
+    Place {
+        refused: p.refused,
+        buffer: p.buffer,
+        offset: p.offset,
+        len: n,
+    }
+}
+
+// Which bytes of which buffer the last n bytes of a row's value are; none where it has fewer.
+#[no_mangle]
+pub extern "C" fn tambuyeel_suffix(
+    views: &[u8],
+    bytes: &[u8],
+    starts: &[usize],
+    lens: &[usize],
+    nulls: &[u8],
+    column: &[usize],
+    row: usize,
+    n: usize,
+) -> Place
+    ensures { λ r. ⌜ r ≡ suffixPlace n (placeAt (lent (now (views .entry)) (now (bytes .entry)) (now (starts .entry)) (now (lens .entry)) (now (nulls .entry))) (columnOf (now (column .entry))) row) ⌝ }
+{
+    let p = crate::tambuyeel_value(views, bytes, starts, lens, nulls, column, row);
+    if p.len < n {
+        return Place {
+            refused: p.refused,
+            buffer: p.buffer,
+            offset: p.offset,
+            len: 0,
+        };
+    }
+    Place {
+        refused: p.refused,
+        buffer: p.buffer,
+        offset: p.offset + (p.len - n),
+        len: n,
+    }
+}

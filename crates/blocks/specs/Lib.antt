@@ -1,2 +1,3 @@
 pub mod Seen
 pub mod SeenLaws
+pub mod Walk

@@ -12,7 +12,6 @@ use Rattle.words.specs.Pick.{pick, part-is}
 use Rattle.bounds.specs.Bounds.{rowLimit, blockLimit, byteLimit}
 use Rattle.bounds.specs.Refusals.{refuse, ifAccepted}
 use Rattle.bounds.specs.declared.Refusal.{Refusal}
-use Rattle.bounds.specs.declared.Refusal.the-variants.{Fit, Row, BadView}
 use Rattle.bounds.specs.declared.Why.the-variants.{Accepted, Refused}
 use Rattle.views.specs.View.{viewSize, shortMost, viewAt, lengthOf, blockOf, offsetOf}
 use Rattle.column.specs.declared.Block.{Block}
@@ -146,25 +145,9 @@ module _ (views bytes nulls : List ℕ) (table : List Block) (n : ℕ) (v : List
         drop-drop (offsetOf v) (b .start) bytes,
       )
 
--- ---- the row's value, test by test
+-- ---- the row's value, by its verdict
 
 module _ (l : Lent) (c : Column) (r : ℕ) where
-  pub value-unfit : fits l c ≡ false → Refused Fit ≡ whyValue l c r
-  unfolding whyValue refuse
-  value-unfit f = rw f
-
-  pub value-past : fits l c ≡ true → c .rows ≤ r → Refused Row ≡ whyValue l c r
-  unfolding whyValue refuse
-  value-past f h = rw (f, le-leb (c .rows) r h)
-
-  pub value-unreached : fits l c ≡ true → r < c .rows → reachableAt l c r ≡ false → Refused (BadView r) ≡ whyValue l c r
-  unfolding whyValue refuse
-  value-unreached f h e = rw (f, lt-leb (c .rows) r h, e)
-
-  pub value-reached : fits l c ≡ true → r < c .rows → reachableAt l c r ≡ true → Accepted ≡ whyValue l c r
-  unfolding whyValue refuse
-  value-reached f h e = rw (f, lt-leb (c .rows) r h, e)
-
   pub value-none : (w : Refusal) → Refused w ≡ whyValue l c r → [] ≡ valueAt l c r
   unfolding valueAt
   value-none w e = rw (← e)

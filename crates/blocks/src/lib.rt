@@ -11,7 +11,11 @@ ghost use Rattle.column.specs.Lent.{buffers, block, fits};
 ghost use Rattle.column.specs.Meaning.{blocksOf, shown};
 ghost use Rattle.column.specs.Truth.{reachable};
 ghost use Rattle.reading.specs.Reading.{whyValue, valueAt};
+ghost use Rattle.bounds.specs.Bounds.{rowLimit};
+ghost use Rattle.bounds.specs.Refusals.{isAccepted};
+ghost use Rattle.reading.specs.Walk.{cursor, walkValue, walkStep};
 ghost use Rattle.blocks.specs.Seen.{Sees, Spans};
+ghost use Rattle.blocks.specs.Walk.{heldBy, placeAfter};
 use bounds::Refusal;
 use bounds::Why;
 use column::Block;
@@ -220,4 +224,83 @@ pub fn value<'a>(
 {
     let s = look(views, table, c, row);
     value_with(views, bytes, nulls, c, row, s)
+}
+
+// The row walk: the lent buffers, the column, and the place of the next row.
+pub struct Walk<'a> {
+    pub views: &'a [u8],
+    pub bytes: &'a [u8],
+    pub table: &'a [Block],
+    pub nulls: &'a [u8],
+    pub column: Column,
+    pub at: usize,
+}
+
+// What a walk gives: the value at its place, why it is refused, and the walk after it.
+pub struct Item<'a> {
+    pub value: &'a [u8],
+    pub why: Why,
+    pub walk: Walk<'a>,
+}
+
+// The place after a row: the next one where the row's value was accepted, the same one where it wasn't.
+fn next_place(at: usize, why: Why) -> usize
+    ensures { λ r. ⌜ ((isAccepted why ≡ true → at ≤ rowLimit) → r ≡ placeAfter why at) ⌝ }
+{
+    if bounds::ROW_LIMIT < at {
+        return at;
+    }
+    if bounds::is_accepted(why) {
+        return at + 1;
+    }
+    at
+}
+
+// A walk before the first row.
+pub fn new<'a>(
+    views: &'a [u8],
+    bytes: &'a [u8],
+    table: &'a [Block],
+    nulls: &'a [u8],
+    column: Column,
+) -> Walk<'a>
+    ensures { λ r. ⌜ r ≡ record { views = views .entry; bytes = bytes .entry; table = table .entry; nulls = nulls .entry; column = column; at = 0 } ⌝ }
+{
+    Walk {
+        views,
+        bytes,
+        table,
+        nulls,
+        column,
+        at: 0,
+    }
+}
+
+// The value at the walk's place, and the step to the next row: past the end 3, at a bad row 11, and the place stays.
+pub fn next<'a>(w: Walk<'a>) -> Item<'a>
+    ensures { λ r. ⌜ (now (r .value) ≡ walkValue (heldBy (w .entry)) (w .entry .column) (cursor (w .entry .at)))
+        × ((r .why ≡ walkStep (heldBy (w .entry)) (w .entry .column) (cursor (w .entry .at)) .why)
+        × (r .walk ≡ record { views = w .entry .views; bytes = w .entry .bytes; table = w .entry .table; nulls = w .entry .nulls; column = w .entry .column; at = walkStep (heldBy (w .entry)) (w .entry .column) (cursor (w .entry .at)) .next .at })) ⌝ }
+{
+    let views = w.views;
+    let bytes = w.bytes;
+    let table = w.table;
+    let nulls = w.nulls;
+    let column = w.column;
+    let at = w.at;
+    let v = value(views, bytes, table, nulls, column, at);
+    let why = why_value(views, bytes, table, nulls, column, at);
+    let n = next_place(at, why);
+    Item {
+        value: v,
+        why,
+        walk: Walk {
+            views,
+            bytes,
+            table,
+            nulls,
+            column,
+            at: n,
+        },
+    }
 }

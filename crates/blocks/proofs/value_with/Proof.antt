@@ -4,7 +4,8 @@ use native.Mathlib.Omega.{arith}
 use borrow.Author.Needs.{needs}
 use borrow.Author.Tests.{not-true, not-false}
 use Rattle.bounds.specs.declared.Refusal.the-variants.{Fit, Row, BadView}
-use Rattle.blocks.specs.SeenLaws.{value-unfit, value-past, value-unreached, value-reached, value-none, value-some}
+use Rattle.reading.specs.ReadingLaws.{value-unfit, value-past, value-unreached, value-reached}
+use Rattle.blocks.specs.SeenLaws.{value-none, value-some}
 use Rattle.blocks.proofs.value_with.Statement.{statement}
 use Rattle.blocks.proofs.value_with.Tie as tie
 

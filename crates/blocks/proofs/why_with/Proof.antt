@@ -3,7 +3,7 @@ use mathlib.Core.Path.{sym, _∙_}
 use native.Mathlib.Omega.{arith}
 use borrow.Author.Needs.{needs}
 use borrow.Author.Tests.{not-true, not-false}
-use Rattle.blocks.specs.SeenLaws.{value-unfit, value-past, value-unreached, value-reached}
+use Rattle.reading.specs.ReadingLaws.{value-unfit, value-past, value-unreached, value-reached}
 use Rattle.blocks.proofs.why_with.Statement.{statement}
 use Rattle.blocks.proofs.why_with.Tie as tie
 

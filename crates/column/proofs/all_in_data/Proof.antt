@@ -46,7 +46,11 @@ loop-less : tie.Need-loop-less Inv-loop μ-loop
 loop-less c = search needs
 
 loop-again : tie.Need-loop-again Inv-loop μ-loop
-loop-again c = (omega arith, all-more _ _ _ _ _ _ (omega arith) (omega arith) (c .before .before .before .before .before .loop .inv .1) (sym (c .before .in-data .ensures) ∙ not-false _ (c .if1 .left)))
+loop-again c = (
+  omega arith,
+  all-more _ _ _ _ _ _ (omega arith) (omega arith) (c .before .before .before .before .before .loop .inv .1)
+      (sym (c .before .in-data .ensures) ∙ not-false _ (c .if1 .left)),
+)
 
 returns-2 : tie.Need-returns-2 Inv-loop μ-loop
 returns-2 c = let e : c .before .loop .k ≡ c .before .before .before .before .before .args .blocks = omega arith in rw (← e) (sym (c .before .loop .inv .1))

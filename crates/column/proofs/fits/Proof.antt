@@ -33,7 +33,9 @@ returns-6 : tie.Need-returns-6
 returns-6 c = over-starts _ _ _ _ _ _ (omega arith)
 
 returns-7 : tie.Need-returns-7
-returns-7 c = fits-is _ _ _ _ _ _ (omega (arith, row-limit-is)) (omega arith) (sym (c .before .before .before .map-holds .ensures) ∙ not-false _ (c .before .before .if4 .left)) (omega (arith, block-limit-is)) (omega arith)
+returns-7 c =
+    fits-is _ _ _ _ _ _ (omega (arith, row-limit-is)) (omega arith)
+    (sym (c .before .before .before .map-holds .ensures) ∙ not-false _ (c .before .before .if4 .left)) (omega (arith, block-limit-is)) (omega arith)
 
 pub fits-spec : {M : Type 1} → statement M
 fits-spec =

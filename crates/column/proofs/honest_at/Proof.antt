@@ -25,7 +25,9 @@ le32-requires-2 : tie.Need-le32-requires-2
 le32-requires-2 c κs = search needs
 
 returns-2 : tie.Need-returns-2
-returns-2 c = honest-long _ _ _ _ _ (c .before .le32 .ensures .0) (c .le322 .ensures .0) (λ j. c .before .before .before .before .shared-slice-known .given j .fits) (λ j. c .before .before .before .shared-slice-known2 .given j .fits) (omega arith) (omega arith) (omega arith)
+returns-2 c =
+    honest-long _ _ _ _ _ (c .before .le32 .ensures .0) (c .le322 .ensures .0) (λ j. c .before .before .before .before .shared-slice-known .given j .fits)
+    (λ j. c .before .before .before .shared-slice-known2 .given j .fits) (omega arith) (omega arith) (omega arith)
 
 pub honest-at-spec : {M : Type 1} → statement M
 honest-at-spec =

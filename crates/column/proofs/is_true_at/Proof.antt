@@ -20,16 +20,28 @@ value-part-requires : tie.Need-value-part-requires
 value-part-requires c κs = (c .before .before .before .before .before .before .pre, (sym (c .before .reachable-at .ensures) ∙ not-false _ (c .if1 .left)))
 
 honest-at-requires : tie.Need-honest-at-requires
-honest-at-requires c κs = (c .before .before .before .before .before .before .before .pre .row, ap length (c .value-part .ensures) ∙ length-shown _ _ _ _ _ _ _ (c .before .before .before .before .before .before .before .pre .starts) (c .before .before .before .before .before .before .before .pre .lens) (length-view _ _ (c .before .before .before .before .before .before .before .pre .row)) (sym (c .before .before .reachable-at .ensures) ∙ not-false _ (c .before .if1 .left)))
+honest-at-requires c κs = (
+  c .before .before .before .before .before .before .before .pre .row,
+  ap length (c .value-part .ensures) ∙ length-shown _ _ _ _ _ _ _
+      (c .before .before .before .before .before .before .before .pre .starts) (c .before .before .before .before .before .before .before .pre .lens)
+      (length-view _ _ (c .before .before .before .before .before .before .before .pre .row))
+      (sym (c .before .before .reachable-at .ensures) ∙ not-false _ (c .before .if1 .left)),
+)
 
 returns-2 : tie.Need-returns-2
-returns-2 c = untrue-honest _ _ _ _ _ (c .before .before .value-part .ensures) (sym (c .before .before .before .before .reachable-at .ensures) ∙ not-false _ (c .before .before .before .if1 .left)) (sym (c .before .honest-at .ensures) ∙ not-true _ (c .if2 .taken))
+returns-2 c =
+    untrue-honest _ _ _ _ _ (c .before .before .value-part .ensures)
+    (sym (c .before .before .before .before .reachable-at .ensures) ∙ not-false _ (c .before .before .before .if1 .left))
+    (sym (c .before .honest-at .ensures) ∙ not-true _ (c .if2 .taken))
 
 of-kind-requires : tie.Need-of-kind-requires
 of-kind-requires c κs = search needs
 
 returns-3 : tie.Need-returns-3
-returns-3 c = c .of-kind .ensures ∙ true-kind _ _ _ _ _ (c .before .before .before .value-part .ensures) (sym (c .before .before .before .before .before .reachable-at .ensures) ∙ not-false _ (c .before .before .before .before .if1 .left)) (sym (c .before .before .honest-at .ensures) ∙ not-false _ (c .before .if2 .left))
+returns-3 c =
+    c .of-kind .ensures ∙ true-kind _ _ _ _ _ (c .before .before .before .value-part .ensures)
+    (sym (c .before .before .before .before .before .reachable-at .ensures) ∙ not-false _ (c .before .before .before .before .if1 .left))
+    (sym (c .before .before .honest-at .ensures) ∙ not-false _ (c .before .if2 .left))
 
 pub is-true-at-spec : {M : Type 1} → statement M
 is-true-at-spec =

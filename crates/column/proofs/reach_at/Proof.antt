@@ -35,7 +35,9 @@ in-data-requires : tie.Need-in-data-requires
 in-data-requires c κs = search needs
 
 returns-3 : tie.Need-returns-3
-returns-3 c = reach-no-data _ _ _ _ _ _ _ _ (c .before .before .before .before .before .view-block .ensures .0) (omega arith) (omega arith) (omega arith) (omega arith) (sym (c .before .in-data .ensures) ∙ not-true _ (c .if3 .taken))
+returns-3 c =
+    reach-no-data _ _ _ _ _ _ _ _ (c .before .before .before .before .before .view-block .ensures .0) (omega arith) (omega arith) (omega arith)
+    (omega arith) (sym (c .before .in-data .ensures) ∙ not-true _ (c .if3 .taken))
 
 view-offset-requires : tie.Need-view-offset-requires
 view-offset-requires c κs = search needs
@@ -44,10 +46,14 @@ add-if4 : tie.Need-add-if4
 add-if4 c = search needs
 
 returns-4 : tie.Need-returns-4
-returns-4 c = reach-over _ _ _ _ _ _ _ _ (c .before .before .before .before .before .before .before .view-block .ensures .0) (omega arith) (omega arith) (omega arith) (omega arith) (sym (c .before .before .before .in-data .ensures) ∙ not-false _ (c .before .before .if3 .left)) (omega arith)
+returns-4 c =
+    reach-over _ _ _ _ _ _ _ _ (c .before .before .before .before .before .before .before .view-block .ensures .0) (omega arith) (omega arith)
+    (omega arith) (omega arith) (sym (c .before .before .before .in-data .ensures) ∙ not-false _ (c .before .before .if3 .left)) (omega arith)
 
 returns-5 : tie.Need-returns-5
-returns-5 c = reach-inside _ _ _ _ _ _ _ _ (c .before .before .before .before .before .before .before .view-block .ensures .0) (omega arith) (omega arith) (omega arith) (omega arith) (sym (c .before .before .before .in-data .ensures) ∙ not-false _ (c .before .before .if3 .left)) (omega arith)
+returns-5 c =
+    reach-inside _ _ _ _ _ _ _ _ (c .before .before .before .before .before .before .before .view-block .ensures .0) (omega arith) (omega arith)
+    (omega arith) (omega arith) (sym (c .before .before .before .in-data .ensures) ∙ not-false _ (c .before .before .if3 .left)) (omega arith)
 
 pub reach-at-spec : {M : Type 1} → statement M
 reach-at-spec =

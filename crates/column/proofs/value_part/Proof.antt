@@ -39,16 +39,30 @@ mul-a-2 : tie.Need-mul-a-2
 mul-a-2 c = search needs
 
 shared-slice-read-a : tie.Need-shared-slice-read-a
-shared-slice-read-a c = let g = reach-spans _ _ _ _ _ _ _ (c .before .before .before .before .before .before .before .before .pre .0 .starts) (c .before .before .before .before .before .before .before .before .pre .0 .lens) (omega arith) _ _ _ (c .before .view-block .ensures .0) refl (c .before .before .before .view-len .ensures .0) (c .before .before .before .before .before .before .before .before .pre .1) in omega arith
+shared-slice-read-a c =
+    let g = reach-spans _ _ _ _ _ _ _ (c .before .before .before .before .before .before .before .before .pre .0 .starts)
+    (c .before .before .before .before .before .before .before .before .pre .0 .lens) (omega arith) _ _ _ (c .before .view-block .ensures .0) refl
+    (c .before .before .before .view-len .ensures .0) (c .before .before .before .before .before .before .before .before .pre .1) in
+    omega arith
 
 view-offset-requires : tie.Need-view-offset-requires
 view-offset-requires c κs = search needs
 
 add-a-2 : tie.Need-add-a-2
-add-a-2 c = let g = reach-spans _ _ _ _ _ _ _ (c .before .before .before .before .before .before .before .before .before .pre .0 .starts) (c .before .before .before .before .before .before .before .before .before .pre .0 .lens) (omega arith) _ _ _ (c .before .before .view-block .ensures .0) (c .view-offset .ensures .0) (c .before .before .before .before .view-len .ensures .0) (c .before .before .before .before .before .before .before .before .before .pre .1) in omega (arith, byte-limit-small)
+add-a-2 c =
+    let g = reach-spans _ _ _ _ _ _ _ (c .before .before .before .before .before .before .before .before .before .pre .0 .starts)
+    (c .before .before .before .before .before .before .before .before .before .pre .0 .lens) (omega arith) _ _ _
+    (c .before .before .view-block .ensures .0) (c .view-offset .ensures .0) (c .before .before .before .before .view-len .ensures .0)
+    (c .before .before .before .before .before .before .before .before .before .pre .1) in
+    omega (arith, byte-limit-small)
 
 add-e-2 : tie.Need-add-e-2
-add-e-2 c = let g = reach-spans _ _ _ _ _ _ _ (c .before .before .before .before .before .before .before .before .before .pre .0 .starts) (c .before .before .before .before .before .before .before .before .before .pre .0 .lens) (omega arith) _ _ _ (c .before .before .view-block .ensures .0) (c .view-offset .ensures .0) (c .before .before .before .before .view-len .ensures .0) (c .before .before .before .before .before .before .before .before .before .pre .1) in omega (arith, byte-limit-small)
+add-e-2 c =
+    let g = reach-spans _ _ _ _ _ _ _ (c .before .before .before .before .before .before .before .before .before .pre .0 .starts)
+    (c .before .before .before .before .before .before .before .before .before .pre .0 .lens) (omega arith) _ _ _
+    (c .before .before .view-block .ensures .0) (c .view-offset .ensures .0) (c .before .before .before .before .view-len .ensures .0)
+    (c .before .before .before .before .before .before .before .before .before .pre .1) in
+    omega (arith, byte-limit-small)
 
 sub-result-2 : tie.Need-sub-result-2
 sub-result-2 c = search needs
@@ -57,10 +71,20 @@ part-result-start-2 : tie.Need-part-result-start-2
 part-result-start-2 c = search needs
 
 part-result-end-2 : tie.Need-part-result-end-2
-part-result-end-2 c = let g = reach-spans _ _ _ _ _ _ _ (c .before .before .before .before .before .before .before .before .before .pre .0 .starts) (c .before .before .before .before .before .before .before .before .before .pre .0 .lens) (omega arith) _ _ _ (c .before .before .view-block .ensures .0) (c .view-offset .ensures .0) (c .before .before .before .before .view-len .ensures .0) (c .before .before .before .before .before .before .before .before .before .pre .1) in omega arith
+part-result-end-2 c =
+    let g = reach-spans _ _ _ _ _ _ _ (c .before .before .before .before .before .before .before .before .before .pre .0 .starts)
+    (c .before .before .before .before .before .before .before .before .before .pre .0 .lens) (omega arith) _ _ _
+    (c .before .before .view-block .ensures .0) (c .view-offset .ensures .0) (c .before .before .before .before .view-len .ensures .0)
+    (c .before .before .before .before .before .before .before .before .before .pre .1) in
+    omega arith
 
 returns-2 : tie.Need-returns-2
-returns-2 c = part-shown _ _ _ _ _ _ _ (c .before .before .before .before .before .before .before .before .before .before .pre .0 .starts) (c .before .before .before .before .before .before .before .before .before .before .pre .0 .lens) _ _ _ (c .before .before .before .view-block .ensures .0) (c .before .view-offset .ensures .0) (c .before .before .before .before .before .view-len .ensures .0) (omega arith) (c .before .before .before .before .before .before .before .before .before .before .pre .1)
+returns-2 c =
+    part-shown _ _ _ _ _ _ _ (c .before .before .before .before .before .before .before .before .before .before .pre .0 .starts)
+    (c .before .before .before .before .before .before .before .before .before .before .pre .0 .lens) _ _ _
+    (c .before .before .before .view-block .ensures .0) (c .before .view-offset .ensures .0)
+    (c .before .before .before .before .before .view-len .ensures .0) (omega arith)
+    (c .before .before .before .before .before .before .before .before .before .before .pre .1)
 
 pub value-part-spec : {M : Type 1} → statement M
 value-part-spec =

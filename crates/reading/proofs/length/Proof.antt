@@ -17,10 +17,16 @@ enum-told : tie.Need-enum-told
 enum-told c = search needs
 
 add-view-len : tie.Need-add-view-len
-add-view-len c = let g = run-known _ _ _ _ (ap isAccepted (sym (c .before .before .why-run .ensures) ∙ c .enum-told .given .1)) in let f = fits-gives _ _ _ _ _ _ (g .fit) in omega (arith, row-limit-small)
+add-view-len c =
+    let g = run-known _ _ _ _ (ap isAccepted (sym (c .before .before .why-run .ensures) ∙ c .enum-told .given .1)) in
+    let f = fits-gives _ _ _ _ _ _ (g .fit) in
+    omega (arith, row-limit-small)
 
 view-len-requires : tie.Need-view-len-requires
-view-len-requires c κs = let g = run-known _ _ _ _ (ap isAccepted (sym (c .before .before .why-run .ensures) ∙ c .enum-told .given .1)) in let f = fits-gives _ _ _ _ _ _ (g .fit) in omega arith
+view-len-requires c κs =
+    let g = run-known _ _ _ _ (ap isAccepted (sym (c .before .before .why-run .ensures) ∙ c .enum-told .given .1)) in
+    let f = fits-gives _ _ _ _ _ _ (g .fit) in
+    omega arith
 
 enum-known-why : tie.Need-enum-known-why
 enum-known-why c = search needs

@@ -18,21 +18,31 @@ enum-told : tie.Need-enum-told
 enum-told c = search needs
 
 add-valid-at : tie.Need-add-valid-at
-add-valid-at c = let g = run-known _ _ _ _ (ap isAccepted (sym (c .before .before .why-run .ensures) ∙ c .enum-told .given .1)) in let f = fits-gives _ _ _ _ _ _ (g .fit) in omega (arith, row-limit-small)
+add-valid-at c =
+    let g = run-known _ _ _ _ (ap isAccepted (sym (c .before .before .why-run .ensures) ∙ c .enum-told .given .1)) in
+    let f = fits-gives _ _ _ _ _ _ (g .fit) in
+    omega (arith, row-limit-small)
 
 valid-at-requires : tie.Need-valid-at-requires
-valid-at-requires c κs = let g = run-known _ _ _ _ (ap isAccepted (sym (c .before .before .why-run .ensures) ∙ c .enum-told .given .1)) in let f = fits-gives _ _ _ _ _ _ (g .fit) in λ m. let b = f .bits m in omega arith
+valid-at-requires c κs =
+    let g = run-known _ _ _ _ (ap isAccepted (sym (c .before .before .why-run .ensures) ∙ c .enum-told .given .1)) in
+    let f = fits-gives _ _ _ _ _ _ (g .fit) in
+    λ m. let b = f .bits m in omega arith
 
 returns : tie.Need-returns
 unfolding bitOf whyRow validAt
-returns c = bit-valid _ _ (sym (c .before .before .before .before .why-run .ensures) ∙ c .before .before .enum-told .given .1) (sym (c .before .valid-at .ensures) ∙ c .if1 .taken)
+returns c =
+    bit-valid _ _ (sym (c .before .before .before .before .why-run .ensures) ∙ c .before .before .enum-told .given .1)
+    (sym (c .before .valid-at .ensures) ∙ c .if1 .taken)
 
 enum-known-why : tie.Need-enum-known-why
 enum-known-why c = search needs
 
 returns-2 : tie.Need-returns-2
 unfolding bitOf whyRow validAt
-returns-2 c = bit-null _ _ (sym (c .before .before .before .before .why-run .ensures) ∙ c .before .before .enum-told .given .1) (sym (c .before .valid-at .ensures) ∙ c .if1 .left)
+returns-2 c =
+    bit-null _ _ (sym (c .before .before .before .before .why-run .ensures) ∙ c .before .before .enum-told .given .1)
+    (sym (c .before .valid-at .ensures) ∙ c .if1 .left)
 
 returns-3 : tie.Need-returns-3
 unfolding bitOf whyRow

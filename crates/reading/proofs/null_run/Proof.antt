@@ -17,10 +17,16 @@ enum-told : tie.Need-enum-told
 enum-told c = search needs
 
 add-count-nulls : tie.Need-add-count-nulls
-add-count-nulls c = let g = run-known _ _ _ _ (ap isAccepted (sym (c .before .before .why-run .ensures) ∙ c .enum-told .given .1)) in let f = fits-gives _ _ _ _ _ _ (g .fit) in omega (arith, row-limit-small)
+add-count-nulls c =
+    let g = run-known _ _ _ _ (ap isAccepted (sym (c .before .before .why-run .ensures) ∙ c .enum-told .given .1)) in
+    let f = fits-gives _ _ _ _ _ _ (g .fit) in
+    omega (arith, row-limit-small)
 
 count-nulls-requires : tie.Need-count-nulls-requires
-count-nulls-requires c κs = let g = run-known _ _ _ _ (ap isAccepted (sym (c .before .before .why-run .ensures) ∙ c .enum-told .given .1)) in let f = fits-gives _ _ _ _ _ _ (g .fit) in λ m. let b = f .bits m in omega arith
+count-nulls-requires c κs =
+    let g = run-known _ _ _ _ (ap isAccepted (sym (c .before .before .why-run .ensures) ∙ c .enum-told .given .1)) in
+    let f = fits-gives _ _ _ _ _ _ (g .fit) in
+    λ m. let b = f .bits m in omega arith
 
 enum-known-why : tie.Need-enum-known-why
 enum-known-why c = search needs

@@ -17,7 +17,10 @@ enum-told : tie.Need-enum-told
 enum-told c = search needs
 
 add-t16 : tie.Need-add-t16
-add-t16 c = let g = run-known _ _ _ _ (ap isAccepted (sym (c .before .before .why-run .ensures) ∙ c .enum-told .given .1)) in let f = fits-gives _ _ _ _ _ _ (g .fit) in omega (arith, row-limit-small)
+add-t16 c =
+    let g = run-known _ _ _ _ (ap isAccepted (sym (c .before .before .why-run .ensures) ∙ c .enum-told .given .1)) in
+    let f = fits-gives _ _ _ _ _ _ (g .fit) in
+    omega (arith, row-limit-small)
 
 enum-known-why : tie.Need-enum-known-why
 enum-known-why c = search needs

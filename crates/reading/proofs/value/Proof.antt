@@ -30,17 +30,28 @@ part-result-end c = search needs
 
 returns : tie.Need-returns
 unfolding valueAt
-returns c = accepted-no _ _ _ _ _ (c .before .before .before .why-value .ensures) (sym (c .before .before .is-accepted .ensures) ∙ not-true _ (c .before .if1 .taken)) refl
+returns c =
+    accepted-no _ _ _ _ _ (c .before .before .before .why-value .ensures)
+    (sym (c .before .before .is-accepted .ensures) ∙ not-true _ (c .before .if1 .taken)) refl
 
 add-value-part : tie.Need-add-value-part
-add-value-part c = let g = value-readable _ _ _ (ap isAccepted (sym (c .before .before .why-value .ensures)) ∙ sym (c .before .is-accepted .ensures) ∙ not-false _ (c .if1 .left)) in let f = fits-gives _ _ _ _ _ _ (g .fit) in omega (arith, row-limit-small)
+add-value-part c =
+    let g = value-readable _ _ _
+    (ap isAccepted (sym (c .before .before .why-value .ensures)) ∙ sym (c .before .is-accepted .ensures) ∙ not-false _ (c .if1 .left)) in
+    let f = fits-gives _ _ _ _ _ _ (g .fit) in
+    omega (arith, row-limit-small)
 
 value-part-requires : tie.Need-value-part-requires
-value-part-requires c κs = let g = value-readable _ _ _ (ap isAccepted (sym (c .before .before .why-value .ensures)) ∙ sym (c .before .is-accepted .ensures) ∙ not-false _ (c .if1 .left)) in (fits-row _ _ _ _ _ _ _ (g .fit) (g .row), reachable-bare _ _ _ _ _ _ _ ∙ g .reach)
+value-part-requires c κs =
+    let g = value-readable _ _ _
+    (ap isAccepted (sym (c .before .before .why-value .ensures)) ∙ sym (c .before .is-accepted .ensures) ∙ not-false _ (c .if1 .left)) in
+    (fits-row _ _ _ _ _ _ _ (g .fit) (g .row), reachable-bare _ _ _ _ _ _ _ ∙ g .reach)
 
 returns-2 : tie.Need-returns-2
 unfolding valueAt shownAt
-returns-2 c = accepted-yes _ _ _ _ _ (c .before .before .before .why-value .ensures) (sym (c .before .before .is-accepted .ensures) ∙ not-false _ (c .before .if1 .left)) (c .value-part .ensures ∙ shown-bare _ _ _ _ _ _ _)
+returns-2 c =
+    accepted-yes _ _ _ _ _ (c .before .before .before .why-value .ensures)
+    (sym (c .before .before .is-accepted .ensures) ∙ not-false _ (c .before .if1 .left)) (c .value-part .ensures ∙ shown-bare _ _ _ _ _ _ _)
 
 pub value-spec : {M : Type 1} → statement M
 value-spec =

@@ -20,7 +20,11 @@ returns : tie.Need-returns
 returns c = step-stays _ _ _ _ (c .before .before .why-value .ensures) (sym (c .before .is-accepted .ensures) ∙ not-true _ (c .if1 .taken))
 
 add-t12 : tie.Need-add-t12
-add-t12 c = let g = value-readable _ _ _ (ap isAccepted (sym (c .before .before .why-value .ensures)) ∙ sym (c .before .is-accepted .ensures) ∙ not-false _ (c .if1 .left)) in let f = fits-gives _ _ _ _ _ _ (g .fit) in omega (arith, row-limit-small)
+add-t12 c =
+    let g = value-readable _ _ _
+    (ap isAccepted (sym (c .before .before .why-value .ensures)) ∙ sym (c .before .is-accepted .ensures) ∙ not-false _ (c .if1 .left)) in
+    let f = fits-gives _ _ _ _ _ _ (g .fit) in
+    omega (arith, row-limit-small)
 
 returns-2 : tie.Need-returns-2
 returns-2 c = step-goes _ _ _ _ (c .before .before .why-value .ensures) (sym (c .before .is-accepted .ensures) ∙ not-false _ (c .if1 .left))

@@ -26,10 +26,14 @@ reachable-at-requires : tie.Need-reachable-at-requires
 reachable-at-requires c κs = fits-row _ _ _ _ _ _ _ (sym (c .before .before .fits2 .ensures) ∙ not-false _ (c .before .if1 .left)) (omega arith)
 
 returns-3 : tie.Need-returns-3
-returns-3 c = value-unreached _ _ _ (sym (c .before .before .before .before .fits2 .ensures) ∙ not-false _ (c .before .before .before .if1 .left)) (omega arith) (sym (reachable-bare _ _ _ _ _ _ _) ∙ sym (c .before .reachable-at .ensures) ∙ not-true _ (c .if3 .taken))
+returns-3 c =
+    value-unreached _ _ _ (sym (c .before .before .before .before .fits2 .ensures) ∙ not-false _ (c .before .before .before .if1 .left)) (omega arith)
+    (sym (reachable-bare _ _ _ _ _ _ _) ∙ sym (c .before .reachable-at .ensures) ∙ not-true _ (c .if3 .taken))
 
 returns-4 : tie.Need-returns-4
-returns-4 c = value-reached _ _ _ (sym (c .before .before .before .before .fits2 .ensures) ∙ not-false _ (c .before .before .before .if1 .left)) (omega arith) (sym (reachable-bare _ _ _ _ _ _ _) ∙ sym (c .before .reachable-at .ensures) ∙ not-false _ (c .if3 .left))
+returns-4 c =
+    value-reached _ _ _ (sym (c .before .before .before .before .fits2 .ensures) ∙ not-false _ (c .before .before .before .if1 .left)) (omega arith)
+    (sym (reachable-bare _ _ _ _ _ _ _) ∙ sym (c .before .reachable-at .ensures) ∙ not-false _ (c .if3 .left))
 
 pub why-value-spec : {M : Type 1} → statement M
 why-value-spec =

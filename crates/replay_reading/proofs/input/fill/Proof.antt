@@ -1,0 +1,38 @@
+use lib.ListN.{length-take}
+use native.Mathlib.Omega.{arith}
+use borrow.Author.Needs.{needs}
+use Rattle.replay_reading.proofs.input.fill.Statement.{statement}
+use Rattle.replay_reading.proofs.input.fill.Tie as tie
+use Rattle.replay_reading.proofs.input.fill.Reads as reads
+use Rattle.replay_reading.proofs.input.fill.Lts as lts
+use Rattle.io.proofs.read_full.Reads as read-full-reads
+
+-- src/input.rt:60:23
+slice-relend-prefix-read-full : tie.Need-slice-relend-prefix-read-full
+slice-relend-prefix-read-full c = search needs
+
+-- src/input.rt:60:23
+slice-aggregate-read-full : tie.Need-slice-aggregate-read-full
+slice-aggregate-read-full c = simp length-take (omega arith)
+
+-- src/input.rt:60:5
+read-full-requires : tie.Need-read-full-requires
+read-full-requires c κs = search needs
+
+-- src/input.rt:57:1
+same-length : tie.Need-same-length
+same-length c = search needs
+
+-- src/input.rt:57:1
+returns : tie.Need-returns
+returns c = search needs
+
+pub fill-spec : {M : Type 1} → statement M
+fill-spec =
+    tie.close
+    (tie.spec
+    slice-relend-prefix-read-full
+    slice-aggregate-read-full
+    read-full-requires
+    same-length
+    returns)

@@ -1,0 +1,482 @@
+// Replays data/reading.bin, the fixed list of answers about columns that oracle/README.md lays out: groups of two columns and questions about them.
+// Writes how many groups and questions there were, how many questions were answered otherwise, the first of those, and whether the list ended inside a group.
+mod input;
+mod said;
+
+use column::Column;
+use libc::STDOUT_FILENO;
+use said::Said;
+
+struct Tally {
+    groups: u64,
+    questions: u64,
+    wrong: u64,
+    first: u64,
+    torn: bool,
+    ended: bool,
+}
+
+// Whether a part has the bytes that the list names: word 7 says of which slice, 8 where it begins, 9 its length.
+fn part_is(got: &[u8], views: &[u8], bytes: &[u8], q: &[u8; 80]) -> bool {
+    let which = input::word(q, 7);
+    let at = input::word(q, 8);
+    let n = input::word(q, 9);
+    if got.len() != n {
+        return false;
+    }
+    if which == 1 {
+        return holds(got, views, at, n);
+    }
+    if which == 2 {
+        return holds(got, bytes, at, n);
+    }
+    n == 0
+}
+
+fn holds(got: &[u8], from: &[u8], at: usize, n: usize) -> bool {
+    let size = from.len();
+    if size < n {
+        return false;
+    }
+    if size - n < at {
+        return false;
+    }
+    let end = at + n;
+    order::same(got, &from[at..end])
+}
+
+// Calls 1, 2, 3 and 13: those that answer a part of the left column's views or data.
+fn ask_part<'a>(
+    views: &'a [u8],
+    bytes: &'a [u8],
+    starts: &[usize],
+    lens: &[usize],
+    nulls: &[u8],
+    c: Column,
+    q: &[u8; 80],
+) -> Said {
+    let call = input::word(q, 0);
+    let row = input::word(q, 1);
+    let n = input::word(q, 2);
+    let size = input::word(q, 9);
+    let why = reading::why_value(views, bytes, starts, lens, nulls, c, row);
+    if call == 1 {
+        let got = reading::value(views, bytes, starts, lens, nulls, c, row);
+        return said::of_part(why, 0, size, part_is(got, views, bytes, q));
+    }
+    if call == 2 {
+        let got = reading::prefix(views, bytes, starts, lens, nulls, c, row, n);
+        return said::of_part(why, 0, size, part_is(got, views, bytes, q));
+    }
+    if call == 3 {
+        let got = reading::suffix(views, bytes, starts, lens, nulls, c, row, n);
+        return said::of_part(why, 0, size, part_is(got, views, bytes, q));
+    }
+    let cursor = reading::Cursor { at: row };
+    let got = reading::walk_value(views, bytes, starts, lens, nulls, c, cursor);
+    let step = reading::walk_step(views, bytes, starts, lens, nulls, c, cursor);
+    let w = step.why;
+    let next = step.next;
+    said::of_part(w, next.at, size, part_is(got, views, bytes, q))
+}
+
+// Calls 4 to 9 and 11: those that answer a number of the left column.
+fn ask_number<'a>(
+    views: &'a [u8],
+    bytes: &'a [u8],
+    starts: &[usize],
+    lens: &[usize],
+    nulls: &[u8],
+    c: Column,
+    q: &[u8; 80],
+) -> Said {
+    let call = input::word(q, 0);
+    let a = input::word(q, 1);
+    let b = input::word(q, 2);
+    match call {
+        4 => said::of_number(reading::length(views, bytes, starts, lens, nulls, c, a)),
+        5 => said::of_bit(reading::null_bit(views, bytes, starts, lens, nulls, c, a)),
+        6 => said::of_number(reading::null_run(views, bytes, starts, lens, nulls, c, a, b)),
+        7 => said::of_slice(reading::slice(views, bytes, starts, lens, nulls, c, a, b)),
+        8 => said::of_number(reading::total_bytes_len(views, bytes, starts, lens, nulls, c)),
+        9 => said::of_number(reading::total_buffer_bytes_used(
+            views,
+            bytes,
+            starts,
+            lens,
+            nulls,
+            c,
+        )),
+        _ => said::of_why(validity::check(views, bytes, starts, lens, nulls, c), 0),
+    }
+}
+
+fn agrees(s: Said, q: &[u8; 80]) -> bool {
+    if s.refusal != input::word(q, 3) {
+        return false;
+    }
+    if s.row != input::word(q, 4) {
+        return false;
+    }
+    if s.side != input::word(q, 5) {
+        return false;
+    }
+    if s.number != input::word(q, 6) {
+        return false;
+    }
+    if s.size != input::word(q, 9) {
+        return false;
+    }
+    s.part
+}
+
+// One question about the two columns: right or not.
+fn ask<'a>(
+    views: &'a [u8],
+    bytes: &'a [u8],
+    starts: &[usize],
+    lens: &[usize],
+    nulls: &[u8],
+    c: Column,
+    views2: &'a [u8],
+    bytes2: &'a [u8],
+    starts2: &[usize],
+    lens2: &[usize],
+    nulls2: &[u8],
+    d: Column,
+    q: &[u8; 80],
+) -> bool {
+    let call = input::word(q, 0);
+    let a = input::word(q, 1);
+    let b = input::word(q, 2);
+    match call {
+        1..=3 | 13 => agrees(ask_part(views, bytes, starts, lens, nulls, c, q), q),
+        10 => agrees(
+            said::of_compared(comparison::compare(
+                views,
+                bytes,
+                starts,
+                lens,
+                nulls,
+                c,
+                a,
+                views2,
+                bytes2,
+                starts2,
+                lens2,
+                nulls2,
+                d,
+                b,
+            )),
+            q,
+        ),
+        12 => agrees(
+            said::of_same(comparison::same_column(
+                views,
+                bytes,
+                starts,
+                lens,
+                nulls,
+                c,
+                views2,
+                bytes2,
+                starts2,
+                lens2,
+                nulls2,
+                d,
+            )),
+            q,
+        ),
+        _ => agrees(ask_number(views, bytes, starts, lens, nulls, c, q), q),
+    }
+}
+
+// One more, up to more than any list has.
+fn more(n: u64) -> u64 {
+    if n < 1000000000 {
+        return n + 1;
+    }
+    n
+}
+
+fn counted(t: Tally, right: bool) -> Tally {
+    let questions = more(t.questions);
+    if right {
+        return Tally {
+            groups: t.groups,
+            questions,
+            wrong: t.wrong,
+            first: t.first,
+            torn: false,
+            ended: false,
+        };
+    }
+    Tally {
+        groups: t.groups,
+        questions,
+        wrong: more(t.wrong),
+        first: if t.wrong == 0 { questions } else { t.first },
+        torn: false,
+        ended: false,
+    }
+}
+
+fn say(name: &[u8], n: u64) {
+    io::write_all(STDOUT_FILENO, name);
+    io::print_decimal(STDOUT_FILENO, n);
+    io::write_all(STDOUT_FILENO, b"\n");
+}
+
+// The tally of a list that ended inside a group.
+fn torn(t: Tally) -> Tally {
+    Tally {
+        groups: t.groups,
+        questions: t.questions,
+        wrong: t.wrong,
+        first: t.first,
+        torn: true,
+        ended: true,
+    }
+}
+
+// The n questions of a group.
+fn questions<'a>(
+    fd: i32,
+    views: &'a [u8],
+    bytes: &'a [u8],
+    starts: &[usize],
+    lens: &[usize],
+    nulls: &[u8],
+    c: Column,
+    views2: &'a [u8],
+    bytes2: &'a [u8],
+    starts2: &[usize],
+    lens2: &[usize],
+    nulls2: &[u8],
+    d: Column,
+    n: u64,
+    before: Tally,
+) -> Tally {
+    let mut t = before;
+    let mut k = 0;
+    while k < n {
+        let mut q = [0u8; 80];
+        if io::read_full(fd, &mut q) < 80 {
+            return torn(t);
+        }
+        let right = ask(
+            views,
+            bytes,
+            starts,
+            lens,
+            nulls,
+            c,
+            views2,
+            bytes2,
+            starts2,
+            lens2,
+            nulls2,
+            d,
+            &q,
+        );
+        t = counted(t, right);
+        k += 1;
+    }
+    t
+}
+
+// Fills a column's buffers; false where they hold less than its shape says, or the list ends.
+fn load(
+    fd: i32,
+    views: &mut [u8],
+    bytes: &mut [u8],
+    starts: &mut [usize],
+    lens: &mut [usize],
+    nulls: &mut [u8],
+    s: input::Shape,
+) -> bool {
+    if views.len() < s.views {
+        return false;
+    }
+    if bytes.len() < s.bytes {
+        return false;
+    }
+    if starts.len() < s.blocks {
+        return false;
+    }
+    if lens.len() < s.blocks {
+        return false;
+    }
+    if nulls.len() < s.nulls {
+        return false;
+    }
+    if !input::fill(fd, views, s.views) {
+        return false;
+    }
+    if !input::fill(fd, bytes, s.bytes) {
+        return false;
+    }
+    if !input::fill_table(fd, starts, lens, s.blocks) {
+        return false;
+    }
+    input::fill(fd, nulls, s.nulls)
+}
+
+// The questions of a group whose buffers are filled.
+fn asked<'a>(
+    fd: i32,
+    views: &'a [u8],
+    bytes: &'a [u8],
+    starts: &[usize],
+    lens: &[usize],
+    nulls: &[u8],
+    a: input::Shape,
+    views2: &'a [u8],
+    bytes2: &'a [u8],
+    starts2: &[usize],
+    lens2: &[usize],
+    nulls2: &[u8],
+    b: input::Shape,
+    n: u64,
+    t: Tally,
+) -> Tally {
+    let c = a.column;
+    let d = b.column;
+    questions(
+        fd,
+        input::front(views, a.views),
+        input::front(bytes, a.bytes),
+        input::front_numbers(starts, a.blocks),
+        input::front_numbers(lens, a.blocks),
+        input::front(nulls, a.nulls),
+        c,
+        input::front(views2, b.views),
+        input::front(bytes2, b.bytes),
+        input::front_numbers(starts2, b.blocks),
+        input::front_numbers(lens2, b.blocks),
+        input::front(nulls2, b.nulls),
+        d,
+        n,
+        t,
+    )
+}
+
+// A group: its head has been read.
+fn group(fd: i32, head: &[u8; 160], t: Tally) -> Tally {
+    let n = input::word(head, 1);
+    let a = input::shape_at(head, 2);
+    let b = input::shape_at(head, 11);
+    let mut views = [0u8; 1024];
+    let mut bytes = [0u8; 1024];
+    let mut starts = [0usize; 16];
+    let mut lens = [0usize; 16];
+    let mut nulls = [0u8; 16];
+    if !load(
+        fd,
+        &mut views,
+        &mut bytes,
+        &mut starts,
+        &mut lens,
+        &mut nulls,
+        a,
+    ) {
+        return torn(t);
+    }
+    let mut views2 = [0u8; 1024];
+    let mut bytes2 = [0u8; 1024];
+    let mut starts2 = [0usize; 16];
+    let mut lens2 = [0usize; 16];
+    let mut nulls2 = [0u8; 16];
+    if !load(
+        fd,
+        &mut views2,
+        &mut bytes2,
+        &mut starts2,
+        &mut lens2,
+        &mut nulls2,
+        b,
+    ) {
+        return torn(t);
+    }
+    asked(
+        fd,
+        &views,
+        &bytes,
+        &starts,
+        &lens,
+        &nulls,
+        a,
+        &views2,
+        &bytes2,
+        &starts2,
+        &lens2,
+        &nulls2,
+        b,
+        n as u64,
+        t,
+    )
+}
+
+// The next group, or the list's end.
+fn turn(fd: i32, t: Tally) -> Tally {
+    let mut head = [0u8; 160];
+    let got = io::read_full(fd, &mut head);
+    if got == 0 {
+        return Tally {
+            groups: t.groups,
+            questions: t.questions,
+            wrong: t.wrong,
+            first: t.first,
+            torn: t.torn,
+            ended: true,
+        };
+    }
+    if got < 160 {
+        return torn(t);
+    }
+    let begun = Tally {
+        groups: more(t.groups),
+        questions: t.questions,
+        wrong: t.wrong,
+        first: t.first,
+        torn: false,
+        ended: false,
+    };
+    group(fd, &head, begun)
+}
+
+// All groups, up to more than any list has.
+fn replay(fd: i32) -> Tally {
+    let mut t = Tally {
+        groups: 0,
+        questions: 0,
+        wrong: 0,
+        first: 0,
+        torn: false,
+        ended: false,
+    };
+    let mut k = 0usize;
+    while k < 1000000 {
+        t = turn(fd, t);
+        if t.ended {
+            return t;
+        }
+        k += 1;
+    }
+    t
+}
+
+fn main() {
+    let fd = os::open_read(b"reading.bin");
+    if fd < 0 {
+        io::write_all(STDOUT_FILENO, b"no reading.bin\n");
+        return;
+    }
+    let t = replay(fd);
+    libc::close(fd);
+    say(b"groups=", t.groups);
+    say(b"questions=", t.questions);
+    say(b"wrong=", t.wrong);
+    say(b"first=", t.first);
+    say(b"torn=", if t.torn { 1 } else { 0 });
+}

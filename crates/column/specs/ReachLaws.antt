@@ -112,7 +112,7 @@ length-body : (v : List ℕ) → length (bodyOf v) ≡ length v - 4
 unfolding bodyOf
 length-body v = length-drop 4 v
 
-take-inner : (o m n : ℕ) (l : List ℕ) → o + m ≤ n → take m (drop o (take n l)) ≡ take m (drop o l)
+pub take-inner : (o m n : ℕ) (l : List ℕ) → o + m ≤ n → take m (drop o (take n l)) ≡ take m (drop o l)
 take-inner zero m n l h = take-take m n l (omega arith)
 take-inner (suc o) m zero l h = absurd (omega arith)
 take-inner (suc o) m (suc n) [] h = refl

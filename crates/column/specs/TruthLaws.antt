@@ -3,12 +3,12 @@ use mathlib.Core.Path.{_≡_, refl, sym, ap, _∙_}
 use mathlib.Core.Bool.{Bool, true, false, _&&_}
 use mathlib.Core.List.{List, [], _∷_}
 use Prim.Native.Nat.{ℕ, zero, suc, _+_, _-_, _*_, _/_, _^_, _≤_, _<_}
-use native.Mathlib.Nat.{add-zero, zero-add, suc-add, mul-suc, add-comm, mul-comm, mul-zero}
+use native.Mathlib.Nat.{add-zero, mul-suc, add-comm, mul-comm, mul-zero}
 use native.Mathlib.Omega.{arith}
 use borrow.Author.Tests.{le-leb, lt-leb, eq-eqb, ne-eqb, eqb-true, eqb-false}
 use lib.Dec.{eqb, eqb·suc-zero}
 use lib.ListN.{length, take, drop, length-drop}
-use lib.Seq.{drop-drop, take-nil, length-take-le}
+use lib.Seq.{drop-drop, length-take-le}
 use lib.Pow.{high, pow-pos}
 use Rattle.words.specs.Pick.{pick}
 use Rattle.words.specs.Words.{Bytes, wordAt, dec}
@@ -16,7 +16,7 @@ use Rattle.words.specs.WordLaws.{word-split, word-lt}
 use Rattle.words.specs.ListLaws.{word-dec, bytes-part}
 use Rattle.order.specs.Order.{same}
 use Rattle.views.specs.View.{viewSize, shortMost, lengthOf, bodyOf, viewAt}
-use Rattle.views.specs.ViewLaws.{body-at, prefix-at}
+use Rattle.views.specs.ViewLaws.{drop-take, body-at, prefix-at}
 use Rattle.column.specs.declared.Kind.{Kind}
 use Rattle.column.specs.Lent.{Lent}
 use Rattle.column.specs.Meaning.{blocksOf, shown}
@@ -37,11 +37,6 @@ unfolding zeros dec
 zeros-dec [] = refl
 zeros-dec (zero ∷ l) = zeros-dec l ∙ eqb-same (dec l) 0 (dec l * 256 + 0) 0 (λ h. omega arith) (λ h. omega arith)
 zeros-dec (suc b ∷ l) = rw (eqb·suc-zero b) (sym (ne-eqb (dec l * 256 + suc b) 0 (λ h. omega arith)))
-
-drop-take : (m n : ℕ) (l : List ℕ) → drop m (take (m + n) l) ≡ take n (drop m l)
-drop-take zero n l = rw (zero-add n)
-drop-take (suc m) n [] = rw (suc-add m n) (sym (take-nil n))
-drop-take (suc m) n (a ∷ l) = rw (suc-add m n) (drop-take m n l)
 
 -- a number without its low bytes
 pub word-high : (l : List ℕ) (i d m : ℕ) → Bytes l → wordAt l i (d + m) / 2 ^ (8 * d) ≡ wordAt l (i + d) m

@@ -26,7 +26,7 @@ field a b i n e h = rw (word-dec (a ++ (enc 4 n ++ b)) i 4, drop-at a (enc 4 n +
 
 -- parts of a list after a store
 
-drop-take : (m n : ℕ) (l : List ℕ) → drop m (take (m + n) l) ≡ take n (drop m l)
+pub drop-take : (m n : ℕ) (l : List ℕ) → drop m (take (m + n) l) ≡ take n (drop m l)
 drop-take zero n l = rw (zero-add n)
 drop-take (suc m) n [] = rw (suc-add m n) (sym (take-nil n))
 drop-take (suc m) n (a ∷ l) = rw (suc-add m n) (drop-take m n l)

@@ -1,6 +1,8 @@
 fn main() {
-    let lib = std::fs::canonicalize("../../target/native").expect("build the library first: bench/text/native exports");
+    let lib = std::fs::canonicalize("../../target/native").expect("build the libraries first: bench/text/native exports, bench/text/native batches");
     println!("cargo:rustc-link-search=native={}", lib.display());
-    println!("cargo:rustc-link-lib=static=exports");
-    println!("cargo:rerun-if-changed=../../target/native/libexports.a");
+    for name in ["exports", "batches"] {
+        println!("cargo:rustc-link-lib=static={name}");
+        println!("cargo:rerun-if-changed=../../target/native/lib{name}.a");
+    }
 }

@@ -19,6 +19,12 @@ use Rattle.comparison.specs.declared.Verdict.the-variants.{Accepted, Lef
 use Rattle.comparison.specs.declared.Compared.{Compared}
 use Rattle.comparison.specs.declared.Compared.the-variants as compared
 
+-- whether a second order isn't asked
+abbrev pub decided : Ordering → Bool
+decided Ordering·lt = true
+decided Ordering·eq = false
+decided Ordering·gt = true
+
 -- two short values by their twelve bytes then length; otherwise four bytes, then whole values
 unfoldable pub compareViews : List (List ℕ) → List ℕ → List (List ℕ) → List ℕ → Ordering
 compareViews bs v cs w =

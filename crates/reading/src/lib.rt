@@ -274,13 +274,14 @@ pub fn slice(
     }
 }
 
-// What a row adds to `total_bytes_len`: its length unless it is null. The row counts from row 0 of the views.
+// What a row adds to `total_bytes_len`: its length unless it is null, read first so that no branch hangs on the bit. The row counts from row 0 of the views.
 fn valid_bytes(views: &[u8], nulls: &[u8], mapped: bool, at: usize) -> usize
     requires { ⌜ (viewSize * at + viewSize ≤ length (now views)) × (mapped ≡ true → at / 8 < length (now nulls)) ⌝ }
     ensures { λ r. ⌜ (r ≡ pick (bits.validAt (now (nulls .entry)) mapped at) (lengthOf (viewAt (now (views .entry)) at)) 0) × (r < 4294967296) ⌝ }
 {
+    let len = views::view_len(views, at);
     if null_bits::valid_at(nulls, mapped, at) {
-        return views::view_len(views, at);
+        return len;
     }
     0
 }

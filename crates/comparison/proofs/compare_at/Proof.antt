@@ -1,9 +1,9 @@
 -- `comparison::compare_at` meets its contract. Assumes nothing.
 use denote.Ref.{now}
-use mathlib.Core.Path.{sym, ap, ap₂, _∙_}
+use mathlib.Core.Path.{sym, ap₂, _∙_}
 use borrow.Author.Needs.{needs}
 use Rattle.order.specs.Order.{ordering, cmp}
-use Rattle.comparison.proofs.Laws.{view-part, short-order, prefix-order}
+use Rattle.comparison.proofs.Laws.{view-part, short-order, decided-first, decided-second, prefix-order}
 use Rattle.comparison.proofs.compare_at.Statement.{statement}
 use Rattle.comparison.proofs.compare_at.Tie as tie
 
@@ -55,20 +55,11 @@ returns c = let s = c .before .before .before .before .before .before .before .b
 cmp-prefix-requires : tie.Need-cmp-prefix-requires
 cmp-prefix-requires c κs = search needs
 
-enum-told : tie.Need-enum-told
-enum-told c = search needs
+decides-requires : tie.Need-decides-requires
+decides-requires c κs = search needs
 
 returns-2 : tie.Need-returns-2
-returns-2 c = let s = c .before .before .before .before .before .before .before .before .before .before .before .before .before .before .before .before .before .args in let v = view-part (now (s .views)) (s .at) in let w = view-part (now (s .views2)) (s .at2) in prefix-order _ _ _ _ _ (rw (c .before .before .before .before .before .before .view-len .ensures .0, c .before .before .before .before .before .view-len2 .ensures .0) at (sym (c .before .before .before .before .both-short .ensures) ∙ c .before .before .before .if1 .left)) (rw (v, w) at (sym (ap ordering (c .enum-told .given .1)) ∙ c .before .before .cmp-prefix .ensures))
-
-enum-told-2 : tie.Need-enum-told-2
-enum-told-2 c = search needs
-
-returns-3 : tie.Need-returns-3
-returns-3 c = let s = c .before .before .before .before .before .before .before .before .before .before .before .before .before .before .before .before .before .args in let v = view-part (now (s .views)) (s .at) in let w = view-part (now (s .views2)) (s .at2) in prefix-order _ _ _ _ _ (rw (c .before .before .before .before .before .before .view-len .ensures .0, c .before .before .before .before .before .view-len2 .ensures .0) at (sym (c .before .before .before .before .both-short .ensures) ∙ c .before .before .before .if1 .left)) (rw (v, w) at (sym (ap ordering (c .enum-told2 .given .1)) ∙ c .before .before .cmp-prefix .ensures))
-
-enum-told-3 : tie.Need-enum-told-3
-enum-told-3 c = search needs
+returns-2 c = let s = c .before .before .before .before .before .before .before .before .before .before .before .before .before .before .before .before .before .args in let v = view-part (now (s .views)) (s .at) in let w = view-part (now (s .views2)) (s .at2) in decided-first _ _ (sym (c .before .decides .ensures) ∙ c .if2 .taken) ∙ prefix-order _ _ _ _ _ (rw (c .before .before .before .before .before .before .view-len .ensures .0, c .before .before .before .before .before .view-len2 .ensures .0) at (sym (c .before .before .before .before .both-short .ensures) ∙ c .before .before .before .if1 .left)) (rw (v, w) at (c .before .before .cmp-prefix .ensures))
 
 value-part-requires : tie.Need-value-part-requires
 value-part-requires c κs = search needs
@@ -79,8 +70,8 @@ value-part-requires-2 c κs = search needs
 cmp-requires : tie.Need-cmp-requires
 cmp-requires c κs = search needs
 
-returns-4 : tie.Need-returns-4
-returns-4 c = let s = c .before .before .before .before .before .before .before .before .before .before .before .before .before .before .before .before .before .before .before .before .args in let v = view-part (now (s .views)) (s .at) in let w = view-part (now (s .views2)) (s .at2) in c .cmp .ensures ∙ ap₂ cmp (c .before .before .value-part .ensures) (c .before .value-part2 .ensures) ∙ prefix-order _ _ _ _ _ (rw (c .before .before .before .before .before .before .before .before .before .view-len .ensures .0, c .before .before .before .before .before .before .before .before .view-len2 .ensures .0) at (sym (c .before .before .before .before .before .before .before .both-short .ensures) ∙ c .before .before .before .before .before .before .if1 .left)) (rw (v, w) at (sym (ap ordering (c .before .before .before .enum-told3 .given .1)) ∙ c .before .before .before .before .before .cmp-prefix .ensures))
+returns-3 : tie.Need-returns-3
+returns-3 c = let s = c .before .before .before .before .before .before .before .before .before .before .before .before .before .before .before .before .before .before .before .before .args in let v = view-part (now (s .views)) (s .at) in let w = view-part (now (s .views2)) (s .at2) in c .cmp .ensures ∙ ap₂ cmp (c .before .before .value-part .ensures) (c .before .value-part2 .ensures) ∙ decided-second (ordering (c .before .before .before .before .before .cmp-prefix .result)) _ (sym (c .before .before .before .before .decides .ensures) ∙ c .before .before .before .if2 .left) ∙ prefix-order _ _ _ _ _ (rw (c .before .before .before .before .before .before .before .before .before .view-len .ensures .0, c .before .before .before .before .before .before .before .before .view-len2 .ensures .0) at (sym (c .before .before .before .before .before .before .before .both-short .ensures) ∙ c .before .before .before .before .before .before .if1 .left)) (rw (v, w) at (c .before .before .before .before .before .cmp-prefix .ensures))
 
 pub compare-at-spec : {M : Type 1} → statement M
 compare-at-spec =
@@ -102,12 +93,9 @@ compare-at-spec =
     cmp-short-requires
     returns
     cmp-prefix-requires
-    enum-told
+    decides-requires
     returns-2
-    enum-told-2
-    returns-3
-    enum-told-3
     value-part-requires
     value-part-requires-2
     cmp-requires
-    returns-4)
+    returns-3)

@@ -4,17 +4,17 @@ use borrow.Author.Needs.{needs}
 use Rattle.reading.proofs.valid_bytes.Statement.{statement}
 use Rattle.reading.proofs.valid_bytes.Tie as tie
 
-valid-at-requires : tie.Need-valid-at-requires
-valid-at-requires c κs = search needs
-
 view-len-requires : tie.Need-view-len-requires
 view-len-requires c κs = search needs
 
+valid-at-requires : tie.Need-valid-at-requires
+valid-at-requires c κs = search needs
+
 returns : tie.Need-returns
-returns c = (rw (← c .before .before .valid-at .ensures, c .before .if1 .taken) (c .view-len .ensures .0), omega arith)
+returns c = (rw (← c .before .valid-at .ensures, c .if1 .taken) (c .before .before .view-len .ensures .0), omega arith)
 
 returns-2 : tie.Need-returns-2
 returns-2 c = (rw (← c .before .valid-at .ensures, c .if1 .left), omega arith)
 
 pub valid-bytes-spec : {M : Type 1} → statement M
-valid-bytes-spec = tie.close (tie.spec valid-at-requires view-len-requires returns returns-2)
+valid-bytes-spec = tie.close (tie.spec view-len-requires valid-at-requires returns returns-2)

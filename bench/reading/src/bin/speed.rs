@@ -1,6 +1,6 @@
 //! Times of reading, comparison, totals and the check, ours beside the original's, on the same columns. A batch is one call on each side, rounds
 //! alternate, and every batch's answer is held against the other's before it is timed. Prints the ratio of the best times, the median of
-//! the ratios of neighbouring rounds (below 1: ours is faster), the target, the best times for one row, and where asked the cost of twice as many rows.
+//! the ratios of neighbouring rounds (below 1: ours is faster), the target, the best times for one row, and the cost of twice as many rows.
 
 use arrow_array::builder::GenericByteViewBuilder;
 use arrow_array::types::{BinaryViewType, ByteViewType, StringViewType};
@@ -13,7 +13,7 @@ use std::hint::black_box;
 use std::time::Instant;
 
 const ROUNDS: usize = 401;
-const ROWS: [usize; 3] = [1_000, 2_000, 16_000];
+const ROWS: [usize; 3] = [1_000, 16_000, 32_000];
 
 /// The original's batches.
 mod original {
@@ -85,10 +85,10 @@ fn row(name: &str, target: f64, rows: usize, ours: &mut dyn FnMut() -> u64, thei
     x
 }
 
-/// The same work at each number of rows, then what twice as many rows cost.
+/// The same work at each number of rows, then what twice as many rows cost us.
 fn rows(name: &str, target: f64, mut at: impl FnMut(&str, f64, usize) -> f64) {
     let times = ROWS.map(|n| at(name, target, n));
-    println!("| {name}: 2,000 rows cost {:.2} times 1,000 rows, 16,000 cost {:.2} times 2,000 | | | | | |", times[1] / times[0], times[2] / times[1]);
+    println!("| {name}: twice {} rows cost {:.2} times as much | | | | | |", ROWS[1], times[2] / times[1]);
 }
 
 /// Values of from..=to bytes, one row in `null` a null if it isn't 0.

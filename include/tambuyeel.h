@@ -1,4 +1,4 @@
-/* Columns of byte views for C. Written by hand for crates/exports: nothing checks it against the Rattle source.
+/* Columns of byte views for C. Written by hand for crates/exports and crates/batches (the last two calls): nothing checks it against the Rattle source.
 
    A slice is a pointer and a count of elements; a null pointer with the count 0 is an empty slice. No call writes to what it is lent,
    keeps it, or fails for any content of it.

@@ -1,10 +1,10 @@
 -- What the code's answers say of the definitions: a view as a part of the views, and the sides of a comparison. Assumes nothing.
-use mathlib.Core.Path.{_≡_, refl, sym, ap, ap₂, _∙_}
-use mathlib.Core.Bool.{Bool, true, false, not, _&&_}
+use mathlib.Core.Path.{_≡_, refl}
+use mathlib.Core.Bool.{true, false, _&&_}
 use mathlib.Core.List.{List}
 use Prim.Native.Nat.{ℕ, _+_, _-_, _*_, Ordering}
 use lib.ListN.{take, drop}
-use Rattle.words.specs.Pick.{pick, part-is}
+use Rattle.words.specs.Pick.{part-is}
 use Rattle.order.specs.Order.{thenby, cmp, shortOrder}
 use Rattle.views.specs.View.{lengthOf, prefixOf, bodyOf, isShort, viewAt}
 use Rattle.column.specs.Meaning.{shown}

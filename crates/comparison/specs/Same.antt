@@ -2,9 +2,8 @@
 use mathlib.Core.Bool.{Bool, true, false, not, _&&_}
 use Prim.Native.Nat.{ℕ, zero, suc}
 use lib.Dec.{eqb}
-use Rattle.words.specs.Pick.{pick}
 use Rattle.order.specs.Order.{same}
-use Rattle.bounds.specs.declared.Refusal.the-variants.{Fit, BadView}
+use Rattle.bounds.specs.declared.Refusal.the-variants.{Fit}
 use Rattle.bounds.specs.declared.Why.{Why}
 use Rattle.bounds.specs.declared.Why.the-variants as why
 use Rattle.column.specs.declared.Column.{Column}

@@ -7,7 +7,6 @@ use native.Mathlib.Nat.{not-suc-le-zero}
 use native.Mathlib.Numerals.{add-one}
 use native.Mathlib.Omega.{arith}
 use borrow.Author.Tests.{not-false, eq-eqb, ne-eqb}
-use lib.Dec.{eqb}
 use Rattle.order.specs.Order.{same}
 use Rattle.order.specs.OrderLaws.{Tri, tri, below, level, above}
 use Rattle.null_bits.specs.Bits as bits

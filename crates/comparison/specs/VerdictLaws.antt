@@ -1,6 +1,6 @@
 -- A number tried on both columns: which side refuses, and what is known where neither does.
 -- Assumes nothing.
-use mathlib.Core.Path.{_≡_, refl, sym}
+use mathlib.Core.Path.{_≡_, refl}
 use mathlib.Core.Bool.{Bool, true, false, not}
 use mathlib.Core.List.{List}
 use Prim.Native.Nat.{ℕ, _+_, _<_}
@@ -24,7 +24,7 @@ use Rattle.comparison.specs.declared.Compared.the-variants as compared
 use Rattle.comparison.specs.declared.Verdict.{Verdict}
 use Rattle.comparison.specs.declared.Verdict.the-variants.{Accepted, Left, Right}
 use Rattle.comparison.specs.Readable.{Readable, Comparable}
-use Rattle.comparison.specs.Compare.{refuseLeftBy, refuseRightBy, refuseBoth, whyCompare, compareViews, orderOf, compareRows}
+use Rattle.comparison.specs.Compare.{refuseBoth, whyCompare, compareViews, orderOf, compareRows}
 
 module _ (r : Refusal) (a : Bool) (s : Refusal) (b : Bool) (w x : Verdict) where
   pub left-refused : a ≡ true → x ≡ Left r → x ≡ refuseBoth r a s b w

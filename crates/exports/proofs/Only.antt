@@ -1,6 +1,6 @@
 -- No second answer to an exported call.
 -- Assumes nothing.
-use mathlib.Core.Path.{_≡_, sym, _∙_}
+use mathlib.Core.Path.{sym, _∙_}
 use Rattle.words.specs.Only.{Only}
 use Rattle.exports.proofs.tambuyeel_why_value.Kinds as why-value-kinds
 use Rattle.exports.proofs.tambuyeel_why_value.Reads as why-value
@@ -10,12 +10,8 @@ use Rattle.exports.proofs.tambuyeel_compare.Kinds as compare-kinds
 use Rattle.exports.proofs.tambuyeel_compare.Reads as compare
 use Rattle.exports.proofs.tambuyeel_same_column.Kinds as same-column-kinds
 use Rattle.exports.proofs.tambuyeel_same_column.Reads as same-column
-use Rattle.exports.proofs.tambuyeel_count_less.Kinds as count-less-kinds
-use Rattle.exports.proofs.tambuyeel_count_less.Reads as count-less
 use Rattle.exports.proofs.tambuyeel_value.Kinds as value-kinds
 use Rattle.exports.proofs.tambuyeel_value.Reads as value
-use Rattle.exports.proofs.tambuyeel_read_all.Kinds as read-all-kinds
-use Rattle.exports.proofs.tambuyeel_read_all.Reads as read-all
 
 pub one-number : Only why-value-kinds.ps why-value-kinds.r why-value.Post (λ κs z s. z)
 one-number κs a z z′ s s′ p q = p ∙ sym q
@@ -29,11 +25,5 @@ one-order κs a z z′ s s′ p q = p ∙ sym q
 pub one-sameness : Only same-column-kinds.ps same-column-kinds.r same-column.Post (λ κs z s. z)
 one-sameness κs a z z′ s s′ p q = p ∙ sym q
 
-pub one-count : Only count-less-kinds.ps count-less-kinds.r count-less.Post (λ κs z s. z)
-one-count κs a z z′ s s′ p q = p ∙ sym q
-
 pub one-place : Only value-kinds.ps value-kinds.r value.Post (λ κs z s. z)
 one-place κs a z z′ s s′ p q = p ∙ sym q
-
-pub one-sum : Only read-all-kinds.ps read-all-kinds.r read-all.Post (λ κs z s. z)
-one-sum κs a z z′ s s′ p q = p ∙ sym q

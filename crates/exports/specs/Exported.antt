@@ -1,9 +1,9 @@
 -- Columns and answers as the numbers that C and Rust see. Assumes nothing.
 use mathlib.Core.Bool.{Bool, true, false, not}
 use mathlib.Core.List.{List}
-use Prim.Native.Nat.{ℕ, zero, suc, _+_, _-_, _*_, _%_, _^_}
+use Prim.Native.Nat.{ℕ, _+_, _*_}
 use lib.Dec.{eqb}
-use lib.ListN.{length, take, drop, getD}
+use lib.ListN.{take, drop, getD}
 use Rattle.words.specs.Pick.{pick}
 use Rattle.bounds.specs.Refusals.{numberOf, rowOf}
 use Rattle.bounds.specs.declared.Why.{Why}
@@ -14,14 +14,13 @@ use Rattle.order.specs.declared.Order.the-variants.{Less, Equal, Greater}
 use Rattle.column.specs.declared.Kind.{Kind}
 use Rattle.column.specs.declared.Kind.the-variants.{Binary, Text}
 use Rattle.column.specs.declared.Column.{Column}
-use Rattle.column.specs.Lent.{Lent, fits, blockAt}
+use Rattle.column.specs.Lent.{Lent, blockAt}
 use Rattle.column.specs.Meaning.{rowView}
-use Rattle.reading.specs.Reading.{whyValue, valueAt}
+use Rattle.reading.specs.Reading.{whyValue}
 use Rattle.comparison.specs.declared.Compared.{Compared}
 use Rattle.comparison.specs.declared.Compared.the-variants as compared
 use Rattle.comparison.specs.declared.Sameness.{Sameness}
 use Rattle.comparison.specs.declared.Sameness.the-variants as sameness
-use Rattle.comparison.specs.Compare.{compareRows}
 use Rattle.exports.specs.declared.Told.{Told}
 use Rattle.exports.specs.declared.Place.{Place}
 
@@ -59,14 +58,6 @@ sameTold sameness.Same = told 1 0
 sameTold (sameness.Left r) = told (16 + numberOf r) (rowOf r)
 sameTold (sameness.Right r) = told (32 + numberOf r) (rowOf r)
 
--- how many of the first n rows are below the one after them
-unfoldable pub lessRows : Lent → Column → ℕ → ℕ
-lessRows l c zero = 0
-lessRows l c (suc n) = lessRows l c n + pick (eqb (comparedNumber (compareRows l c n l c (n + 1))) 0) 1 0
-
-unfoldable pub lessBatch : Lent → Column → ℕ
-lessBatch l c = pick (fits l c) (lessRows l c (c .rows - 1)) 0
-
 abbrev pub place : ℕ → ℕ → ℕ → ℕ → Place
 place refused buffer offset len = record { refused = refused; buffer = buffer; offset = offset; len = len }
 
@@ -85,14 +76,3 @@ placeAt l c r = placeWhen (whyValue l c r) (placeOf l (rowView l c r) (c .first 
 -- the bytes that a place names
 unfoldable pub named : Lent → Place → List ℕ
 named l p = take (p .len) (drop (p .offset) (pick (eqb (p .buffer) 0) (l .views) (l .bytes)))
-
--- the lengths and the first bytes of the values of the first n rows, added up
-unfoldable pub tasteOf : List ℕ → ℕ
-tasteOf x = (length x + getD x 0 0) % 2 ^ 64
-
-unfoldable pub tasteRows : Lent → Column → ℕ → ℕ
-tasteRows l c zero = 0
-tasteRows l c (suc n) = (tasteRows l c n + tasteOf (valueAt l c n)) % 2 ^ 64
-
-unfoldable pub tasteBatch : Lent → Column → ℕ
-tasteBatch l c = pick (fits l c) (tasteRows l c (c .rows)) 0

@@ -1,9 +1,6 @@
 // Columns for C and Rust: reading, the check, comparison and same column by numbers and lent slices. include/tambuyeel.h says the same for C.
 ghost use mathlib.Core.Path.{_≡_};
-ghost use Prim.Native.Nat.{_≤_};
-ghost use lib.Dec.{eqb};
 ghost use lib.ListN.{getD};
-ghost use Rattle.words.specs.Pick.{pick};
 ghost use Rattle.bounds.specs.Refusals.{whyNumber};
 ghost use Rattle.views.specs.View.{viewAt};
 ghost use Rattle.column.specs.Lent.{lent};
@@ -13,7 +10,7 @@ ghost use Rattle.reading.specs.Reading.{whyValue};
 ghost use Rattle.validity.specs.Check.{whyInvalid};
 ghost use Rattle.comparison.specs.Compare.{compareRows};
 ghost use Rattle.comparison.specs.Same.{sameColumn};
-ghost use Rattle.exports.specs.Exported.{columnOf, whyTold, orderNumber, comparedNumber, sameTold, lessBatch, placeOf, placeAt, tasteOf, tasteBatch};
+ghost use Rattle.exports.specs.Exported.{columnOf, whyTold, orderNumber, comparedNumber, sameTold, placeOf, placeAt};
 use bounds::Why;
 use column::Column;
 use column::Kind;
@@ -48,7 +45,7 @@ fn number_at(l: &[usize], k: usize) -> usize
 }
 
 // A column by its five numbers.
-fn column_of(l: &[usize]) -> Column
+pub fn column_of(l: &[usize]) -> Column
     ensures { λ r. ⌜ r ≡ columnOf (now (l .entry)) ⌝ }
 {
     let first = number_at(l, 0);
@@ -95,7 +92,7 @@ fn order_number(o: Order) -> u64
     }
 }
 
-fn compared_number(c: Compared) -> u64
+pub fn compared_number(c: Compared) -> u64
     ensures { λ r. ⌜ r ≡ comparedNumber c ⌝ }
 {
     match c {
@@ -237,56 +234,6 @@ pub extern "C" fn tambuyeel_same_column<'a>(
     ))
 }
 
-fn one_if_zero(x: u64) -> u64
-    ensures { λ r. ⌜ (r ≡ pick (eqb x 0) 1 0) × (r ≤ 1) ⌝ }
-{
-    if x == 0 {
-        return 1;
-    }
-    0
-}
-
-// How many rows are below the next one, by their views; 0 where the column doesn't fit its buffers.
-#[no_mangle]
-pub extern "C" fn tambuyeel_count_less<'a>(
-    views: &'a [u8],
-    bytes: &'a [u8],
-    starts: &[usize],
-    lens: &[usize],
-    nulls: &[u8],
-    column: &[usize],
-) -> u64
-    ensures { λ r. ⌜ r ≡ lessBatch (lent (now (views .entry)) (now (bytes .entry)) (now (starts .entry)) (now (lens .entry)) (now (nulls .entry))) (columnOf (now (column .entry))) ⌝ }
-{
-    let c = column_of(column);
-    if !column::fits(views, bytes, starts, lens, nulls, c) {
-        return 0;
-    }
-    let rows = c.rows;
-    let mut n: u64 = 0;
-    let mut k = 0;
-    while 1 < rows - k {
-        n += one_if_zero(compared_number(comparison::compare(
-            views,
-            bytes,
-            starts,
-            lens,
-            nulls,
-            c,
-            k,
-            views,
-            bytes,
-            starts,
-            lens,
-            nulls,
-            c,
-            k + 1,
-        )));
-        k += 1;
-    }
-    n
-}
-
 // Where the value of a reachable view stands.
 fn place_of(
     views: &[u8],
@@ -342,42 +289,4 @@ pub extern "C" fn tambuyeel_value(
         },
         Why::Accepted => return place_of(views, bytes, starts, lens, c.blocks, c.first + row),
     }
-}
-
-fn taste(x: &[u8]) -> u64
-    ensures { λ r. ⌜ r ≡ tasteOf (now (x .entry)) ⌝ }
-{
-    if x.len() == 0 {
-        return 0;
-    }
-    std::num::wrapping_add_u64(x.len() as u64, words::wide(x[0]))
-}
-
-// The lengths and the first bytes of all values, added up modulo 2^64; 0 where the column doesn't fit its buffers.
-#[no_mangle]
-pub extern "C" fn tambuyeel_read_all<'a>(
-    views: &'a [u8],
-    bytes: &'a [u8],
-    starts: &[usize],
-    lens: &[usize],
-    nulls: &[u8],
-    column: &[usize],
-) -> u64
-    ensures { λ r. ⌜ r ≡ tasteBatch (lent (now (views .entry)) (now (bytes .entry)) (now (starts .entry)) (now (lens .entry)) (now (nulls .entry))) (columnOf (now (column .entry))) ⌝ }
-{
-    let c = column_of(column);
-    if !column::fits(views, bytes, starts, lens, nulls, c) {
-        return 0;
-    }
-    let rows = c.rows;
-    let mut sum: u64 = 0;
-    let mut k = 0;
-    while k < rows {
-        sum = std::num::wrapping_add_u64(
-            sum,
-            taste(reading::value(views, bytes, starts, lens, nulls, c, k)),
-        );
-        k += 1;
-    }
-    sum
 }

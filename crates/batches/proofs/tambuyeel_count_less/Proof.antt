@@ -1,4 +1,4 @@
--- `exports::tambuyeel_count_less` meets its contract. The invariant: the rows passed are counted. Assumes nothing.
+-- `batches::tambuyeel_count_less` meets its contract. The invariant: the rows passed are counted. Assumes nothing.
 use mathlib.Core.Path.{_≡_, sym, ap, _∙_}
 use Prim.Native.Nat.{_-_, _≤_}
 use native.Mathlib.Omega.{arith}
@@ -7,10 +7,11 @@ use borrow.Author.Tests.{not-true, not-false}
 use Rattle.bounds.specs.Bounds.{row-limit-small}
 use Rattle.column.specs.FitLaws.{fits-gives}
 use Rattle.column.specs.Lent.{lent}
-use Rattle.exports.specs.Exported.{comparedNumber, lessRows}
-use Rattle.exports.proofs.Laws.{less-none, less-more, not-counted, counted}
-use Rattle.exports.proofs.tambuyeel_count_less.Statement.{statement}
-use Rattle.exports.proofs.tambuyeel_count_less.Tie as tie
+use Rattle.exports.specs.Exported.{comparedNumber}
+use Rattle.batches.specs.Batches.{lessRows}
+use Rattle.batches.proofs.Laws.{less-none, less-more, not-counted, counted}
+use Rattle.batches.proofs.tambuyeel_count_less.Statement.{statement}
+use Rattle.batches.proofs.tambuyeel_count_less.Tie as tie
 
 abbrev Inv-loop : tie.InvT-loop
 Inv-loop views bytes starts lens nulls column c rows n₀ k₀ n k = (k ≤ rows - 1) × (n ≤ k) × (n ≡ lessRows (lent views bytes starts lens nulls) c k)

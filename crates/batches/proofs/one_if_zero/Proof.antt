@@ -1,8 +1,8 @@
--- `exports::one_if_zero` meets its contract. Assumes nothing.
+-- `batches::one_if_zero` meets its contract. Assumes nothing.
 use native.Mathlib.Omega.{arith}
 use borrow.Author.Tests.{eq-eqb, ne-eqb}
-use Rattle.exports.proofs.one_if_zero.Statement.{statement}
-use Rattle.exports.proofs.one_if_zero.Tie as tie
+use Rattle.batches.proofs.one_if_zero.Statement.{statement}
+use Rattle.batches.proofs.one_if_zero.Tie as tie
 
 returns : tie.Need-returns
 returns c = (rw (eq-eqb (c .before .args .x) 0 (c .if1 .taken)), omega arith)

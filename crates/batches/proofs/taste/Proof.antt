@@ -1,9 +1,9 @@
--- `exports::taste` meets its contract. Assumes nothing.
+-- `batches::taste` meets its contract. Assumes nothing.
 use native.Mathlib.Omega.{arith}
 use borrow.Author.Needs.{needs}
-use Rattle.exports.proofs.Laws.{taste-none, taste-is}
-use Rattle.exports.proofs.taste.Statement.{statement}
-use Rattle.exports.proofs.taste.Tie as tie
+use Rattle.batches.proofs.Laws.{taste-none, taste-is}
+use Rattle.batches.proofs.taste.Statement.{statement}
+use Rattle.batches.proofs.taste.Tie as tie
 
 returns : tie.Need-returns
 returns c = taste-none _ (omega arith)

@@ -1,14 +1,14 @@
--- `exports::tambuyeel_read_all` meets its contract. The invariant: the values passed are added up. Assumes nothing.
+-- `batches::tambuyeel_read_all` meets its contract. The invariant: the values passed are added up. Assumes nothing.
 use mathlib.Core.Path.{_≡_, sym, ap, _∙_}
 use Prim.Native.Nat.{_-_, _≤_}
 use native.Mathlib.Omega.{arith}
 use borrow.Author.Needs.{needs}
 use borrow.Author.Tests.{not-true, not-false}
 use Rattle.column.specs.Lent.{lent}
-use Rattle.exports.specs.Exported.{tasteOf, tasteRows}
-use Rattle.exports.proofs.Laws.{taste-first, taste-more, not-tasted, tasted}
-use Rattle.exports.proofs.tambuyeel_read_all.Statement.{statement}
-use Rattle.exports.proofs.tambuyeel_read_all.Tie as tie
+use Rattle.batches.specs.Batches.{tasteOf, tasteRows}
+use Rattle.batches.proofs.Laws.{taste-first, taste-more, not-tasted, tasted}
+use Rattle.batches.proofs.tambuyeel_read_all.Statement.{statement}
+use Rattle.batches.proofs.tambuyeel_read_all.Tie as tie
 
 abbrev Inv-loop : tie.InvT-loop
 Inv-loop views bytes starts lens nulls column c rows sum₀ k₀ sum k = (k ≤ rows) × (sum ≡ tasteRows (lent views bytes starts lens nulls) c k)

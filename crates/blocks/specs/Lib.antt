@@ -1,3 +1,4 @@
 pub mod Seen
 pub mod SeenLaws
 pub mod Walk
+pub mod Both

@@ -13,6 +13,9 @@ ghost use Rattle.column.specs.Truth.{reachable};
 ghost use Rattle.reading.specs.Reading.{whyValue, valueAt};
 ghost use Rattle.bounds.specs.Bounds.{rowLimit};
 ghost use Rattle.bounds.specs.Refusals.{isAccepted};
+ghost use Rattle.order.specs.Order.{ordering};
+ghost use Rattle.comparison.specs.Compare.{compareViews, compareRows};
+ghost use Rattle.blocks.specs.Both.{bothOf};
 ghost use Rattle.reading.specs.Walk.{cursor, walkValue, walkStep};
 ghost use Rattle.blocks.specs.Seen.{Sees, Spans};
 ghost use Rattle.blocks.specs.Walk.{heldBy, placeAfter};
@@ -20,6 +23,9 @@ use bounds::Refusal;
 use bounds::Why;
 use column::Block;
 use column::Column;
+use comparison::Compared;
+use comparison::Verdict;
+use order::Order;
 
 // What a row sees of the table: how many records there are, and the record of the block that its view names.
 pub struct Seen {
@@ -303,4 +309,133 @@ pub fn next<'a>(w: Walk<'a>) -> Item<'a>
             at: n,
         },
     }
+}
+
+// The verdict on two rows by the verdicts on each: the lower number, and of equal ones the left.
+fn verdict_of(w: Why, v: Why) -> Verdict
+    ensures { λ r. ⌜ r ≡ bothOf w v ⌝ }
+{
+    match w {
+        Why::Accepted => match v {
+            Why::Accepted => return Verdict::Accepted,
+            Why::Refused(s) => return Verdict::Right(s),
+        },
+        Why::Refused(r) => match v {
+            Why::Accepted => return Verdict::Left(r),
+            Why::Refused(s) => {
+                if bounds::number(r) <= bounds::number(s) {
+                    return Verdict::Left(r);
+                }
+                return Verdict::Right(s);
+            }
+        },
+    }
+}
+
+// The bytes of a row's view, none where the views have no such row.
+fn view_of<'a>(views: &'a [u8], c: Column, row: usize) -> &'a [u8]
+    ensures { λ r. ⌜ (viewSize * (c .first + row) + viewSize ≤ length (now (views .entry)) → now r ≡ viewAt (now (views .entry)) (c .first + row)) ⌝ }
+{
+    let first = c.first;
+    let rows = views.len() / views::VIEW_SIZE;
+    if rows <= first {
+        return &views[0..0];
+    }
+    if rows - first <= row {
+        return &views[0..0];
+    }
+    let a = views::VIEW_SIZE * (first + row);
+    let e = a + views::VIEW_SIZE;
+    &views[a..e]
+}
+
+// Two views and the values that they show: short ones by their twelve bytes, then length; otherwise four bytes, then whole values.
+fn order_with<'a>(v: &'a [u8], x: &'a [u8], w: &'a [u8], y: &'a [u8]) -> Order
+    ensures { λ r. ⌜ ((bs cs : List (List ℕ)) → length (now (v .entry)) ≡ viewSize → length (now (w .entry)) ≡ viewSize
+        → now (x .entry) ≡ shown bs (now (v .entry)) → now (y .entry) ≡ shown cs (now (w .entry)) → ordering r ≡ compareViews bs (now (v .entry)) cs (now (w .entry))) ⌝ }
+{
+    if v.len() != views::VIEW_SIZE {
+        return Order::Equal;
+    }
+    if w.len() != views::VIEW_SIZE {
+        return Order::Equal;
+    }
+    if comparison::both_short(views::view_len(v, 0), views::view_len(w, 0)) {
+        return order::cmp_short(v, w);
+    }
+    let o = order::cmp_prefix(v, w);
+    match o {
+        Order::Less => return Order::Less,
+        Order::Greater => return Order::Greater,
+        Order::Equal => return order::cmp(x, y),
+    }
+}
+
+// Two rows, by what each sees of its table.
+fn compare_with<'a>(
+    views: &'a [u8],
+    bytes: &'a [u8],
+    nulls: &'a [u8],
+    c: Column,
+    i: usize,
+    s: Seen,
+    views2: &'a [u8],
+    bytes2: &'a [u8],
+    nulls2: &'a [u8],
+    d: Column,
+    j: usize,
+    s2: Seen,
+) -> Compared
+    ensures { λ r. ⌜ ((table table2 : List Block) → Sees table (now (views .entry)) (c .first + i) s → Sees table2 (now (views2 .entry)) (d .first + j) s2
+        → r ≡ compareRows (buffers (now (views .entry)) (now (bytes .entry)) table (now (nulls .entry))) c i (buffers (now (views2 .entry)) (now (bytes2 .entry)) table2 (now (nulls2 .entry))) d j) ⌝ }
+{
+    let left = why_with(views, bytes, nulls, c, i, s);
+    let right = why_with(views2, bytes2, nulls2, d, j, s2);
+    let why = verdict_of(left, right);
+    match why {
+        Verdict::Left(r) => return Compared::Left(r),
+        Verdict::Right(r) => return Compared::Right(r),
+        Verdict::Accepted => {
+            let x = value_with(views, bytes, nulls, c, i, s);
+            let y = value_with(views2, bytes2, nulls2, d, j, s2);
+            let v = view_of(views, c, i);
+            let w = view_of(views2, d, j);
+            return Compared::Is(order_with(v, x, w, y));
+        }
+    }
+}
+
+// Row i of one column against row j of another, null bits ignored.
+pub fn compare<'a>(
+    views: &'a [u8],
+    bytes: &'a [u8],
+    table: &'a [Block],
+    nulls: &'a [u8],
+    c: Column,
+    i: usize,
+    views2: &'a [u8],
+    bytes2: &'a [u8],
+    table2: &'a [Block],
+    nulls2: &'a [u8],
+    d: Column,
+    j: usize,
+) -> Compared
+    ensures { λ r. ⌜ r ≡ compareRows (buffers (now (views .entry)) (now (bytes .entry)) (now (table .entry)) (now (nulls .entry))) c i (buffers (now (views2 .entry)) (now (bytes2 .entry)) (now (table2 .entry)) (now (nulls2 .entry))) d j ⌝ }
+{
+    let s = look(views, table, c, i);
+    let s2 = look(views2, table2, d, j);
+    compare_with(
+        views,
+        bytes,
+        nulls,
+        c,
+        i,
+        s,
+        views2,
+        bytes2,
+        nulls2,
+        d,
+        j,
+        s2,
+    )
 }

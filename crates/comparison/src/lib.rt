@@ -36,7 +36,7 @@ pub enum Sameness {
     Right(Refusal),
 }
 
-fn both_short(len: usize, len2: usize) -> bool
+pub fn both_short(len: usize, len2: usize) -> bool
     ensures { λ r. ⌜ r ≡ (isShort len && isShort len2) ⌝ }
 {
     if views::SHORT_MOST < len {

@@ -69,10 +69,6 @@ pub never-empty : (t : List ℕ) (hit : ℕ → Bool) (p q : ℕ) → seek t hit
 unfolding seek
 never-empty t hit p q e = let z : _≡_ {A = ℕ} 0 1 = cc in omega arith
 
-pub and-first : (a b : Bool) → a && b ≡ true → a ≡ true
-and-first true b e = refl
-and-first false b e = absurd (true≢false (sym e))
-
 -- only what is asked of entries matters
 ext-step : (hit hit′ : ℕ → Bool) (p n : ℕ) (f g : Found) → ((r : ℕ) → n ≡ suc r → hit r ≡ hit′ r) → f ≡ g → onEntry hit p n f ≡ onEntry hit′ p n g
 ext-step hit hit′ p zero f g h e = refl

@@ -1,6 +1,6 @@
 -- Each accepted value or null call adds rows that show what it appends, over a merge table of any content. Assumes nothing.
 use mathlib.Core.Path.{_≡_, refl, sym, ap, _∙_, subst}
-use mathlib.Core.Bool.{Bool, true, false, not, _&&_, true≢false}
+use mathlib.Core.Bool.{Bool, true, false, not, _&&_}
 use mathlib.Core.List.{List, [], _∷_, _++_, map, map-append, append-nil, append-assoc}
 use Prim.Native.Nat.{ℕ, zero, suc, _+_, _*_, _≤_, _<_, _^_, _%_}
 use native.Mathlib.Nat.{add-suc}
@@ -21,7 +21,8 @@ use Rattle.views.specs.View.{shortMost, isShort, lengthOf, shortView, zeroView,
 use Rattle.views.specs.ViewLaws.{zero-view}
 use Rattle.merging.specs.declared.Found.{Found}
 use Rattle.merging.specs.declared.Found.the-variants.{Row, Free, Full}
-use Rattle.merging.specs.Table.{after, onHit, onEntry, seek, search·from}
+use Rattle.merging.specs.Table.{search·from}
+use Rattle.merging.proofs.Search.{seek-row}
 use Rattle.column.specs.Lent.{blockRoom, dataRoom}
 use Rattle.column.specs.Meaning.{shown}
 use Rattle.column.specs.Truth.{ofKind}
@@ -30,7 +31,7 @@ use Rattle.showing.specs.Row.{short-row}
 use Rattle.order.specs.OrderLaws.{same-true}
 use Rattle.showing.specs.Rows.{rows-length}
 use Rattle.showing.specs.Stores.{length-rows}
-use Rattle.showing.specs.Rooms.{passed}
+use Rattle.showing.specs.Rooms.{both, passed}
 use Rattle.builder.specs.State.{Builder, rowsRoom, isOpen, allBlocks, used, fitsState, blocksNow, fitsOpen, complete, grow, makeRoom, lay, addRow, addRows, enter}
 use Rattle.builder.specs.Values.{merges, hits, found, blockFor, whyLay, whyFound, whyStore, whyTimes, whyValues, store, putFound, putValue, putValues, whyNull, putNull}
 use Rattle.promise.specs.Calls.{Item, value, null, bytesOf, isValue, Call, values, nulls, appended, Ran, none, more}
@@ -46,17 +47,13 @@ pub record Roomy (b c : Builder) (n : ℕ) : Type 0 where
   pub block : c .state .blocks < blockRoom (c .lent)
   pub bytes : used (c .state) + n ≤ dataRoom (c .lent)
 
-and-first : (a b : Bool) → a && b ≡ true → a ≡ true
-and-first true b e = refl
-and-first false b e = absurd (true≢false (sym e))
-
 opened-all : (b : Builder) → isOpen (b .state) ≡ true → allBlocks (b .state) ≡ suc (b .state .blocks)
 unfolding allBlocks
 opened-all b e = rw e
 
 fits-open : (b : Builder) (n : ℕ) → fitsOpen (b .state) n ≡ true → isOpen (b .state) ≡ true
 unfolding fitsOpen
-fits-open b n e = and-first (isOpen (b .state)) _ e
+fits-open b n e = both (isOpen (b .state)) _ e .0
 
 closing : (n : ℕ) (b : Builder) → allBlocks (b .state) < blockRoom (b .lent) → used (b .state) + n ≤ dataRoom (b .lent) → Roomy b (grow n (complete b)) n
 unfolding grow complete
@@ -103,38 +100,21 @@ inv-long b xs x i long h w =
 
 -- ---- a row that merging finds
 
-and-second : (a b : Bool) → a && b ≡ true → b ≡ true
-and-second true b e = e
-and-second false b e = absurd (true≢false (sym e))
-
 pub hit-row : {m : ℕ} (b : Builder) (xs : List Item) (x : List ℕ) (r : ℕ) → Inv m b xs → hits b x r ≡ true → row.Row (blocksNow b) (viewAt (b .lent .views) r) x
 unfolding hits
 hit-row b xs x r i e =
-    let inside : r < b .state .rows = ltb-true _ _ (and-first (ltb r (b .state .rows)) _ e) in
-    let w = row-of b xs i r inside in
-    let shows : shown (blocksNow b) (viewAt (b .lent .views) r) ≡ x =
-    same-true _ _ (and-second (eqb (lengthOf (viewAt (b .lent .views) r)) (length x)) _ (and-second (ltb r (b .state .rows)) _ e)) in
+    let p = both (ltb r (b .state .rows)) _ e in
+    let q = both (eqb (lengthOf (viewAt (b .lent .views) r)) (length x)) _ (p .1) in
+    let w = row-of b xs i r (ltb-true _ _ (p .0)) in
+    let shows : shown (blocksNow b) (viewAt (b .lent .views) r) ≡ x = same-true _ _ (q .1) in
     subst (λ (y : List ℕ). row.Row (blocksNow b) (viewAt (b .lent .views) r) y) (sym (w .val) ∙ shows) w
-
-seek-hits : (t : List ℕ) (hit : ℕ → Bool) (p k r : ℕ) → seek t hit p k ≡ Row r → hit r ≡ true
-unfolding seek
-seek-hits t hit p zero r e = let z : _≡_ {A = ℕ} 0 1 = cc in absurd (omega arith)
-seek-hits t hit p (suc k) r e = at (getD t p 0) (seek-hits t hit (after (length t) p) k r) e
-  where
-    named : (s : ℕ) (b : Bool) (f : Found) → hit s ≡ b → (f ≡ Row r → hit r ≡ true) → onHit s b f ≡ Row r → hit r ≡ true
-    named s true f h ih e = let z : s ≡ r = cc in rw (← z) h
-    named s false f h ih e = ih e
-
-    at : (n : ℕ) {f : Found} → (f ≡ Row r → hit r ≡ true) → onEntry hit p n f ≡ Row r → hit r ≡ true
-    at zero ih e = let z : _≡_ {A = ℕ} 0 1 = cc in absurd (omega arith)
-    at (suc s) {f} ih e = named s (hit s) f refl ih e
 
 found-hits : (b : Builder) (x : List ℕ) (r : ℕ) → found b x ≡ Row r → hits b x r ≡ true
 unfolding found search·from
 found-hits b x r e = by (merges (b .state .merging) (length x)) e
   where
     by : (t : Bool) → pick t (search·from (b .places) (hits b x) (hashOf x)) Full ≡ Row r → hits b x r ≡ true
-    by true e = seek-hits (b .places) (hits b x) (hashOf x % length (b .places)) (length (b .places)) r e
+    by true e = seek-row (b .places) (hits b x) (hashOf x % length (b .places)) (length (b .places)) r e .0
     by false e = let z : _≡_ {A = ℕ} 0 1 = cc in absurd (omega arith)
 
 lay-enter : (p : ℕ) (b : Builder) (n : ℕ) → whyLay b n ≡ Accepted → whyLay (enter p b) n ≡ Accepted

@@ -1,6 +1,6 @@
 -- What is known of a builder whose state fits, and that each small step leaves the rooms as they were. Assumes nothing.
 use mathlib.Core.Path.{_≡_, refl, sym, ap, _∙_}
-use mathlib.Core.Bool.{Bool, true, false, not, _&&_, true≢false}
+use mathlib.Core.Bool.{Bool, true, false, not, _&&_}
 use mathlib.Core.List.{List}
 use Prim.Native.Nat.{ℕ, zero, suc, _+_, _*_, _/_, _≤_, _<_, min}
 use native.Mathlib.Omega.{arith}
@@ -15,14 +15,11 @@ use Rattle.null_bits.specs.Bits.{putBit}
 use Rattle.null_bits.specs.PutLaws as bits
 use Rattle.column.specs.declared.Block.{Block}
 use Rattle.column.specs.Lent.{Lent, block, rowRoom, blockRoom, dataRoom}
+use Rattle.showing.specs.Rooms.{both}
 use Rattle.builder.specs.declared.State.{State}
 use Rattle.builder.specs.declared.Merging.{Merging}
 use Rattle.builder.specs.declared.Merging.the-variants.{Off, On, UpTo}
 use Rattle.builder.specs.State.{Builder, placesRoom, rowsRoom, isOpen, allBlocks, used, fitsState, recorded, complete, grow, lay, addRow, enter}
-
-and-both : (a b : Bool) → a && b ≡ true → (a ≡ true) × (b ≡ true)
-and-both true b e = (refl, e)
-and-both false b e = absurd (true≢false (sym e))
 
 both-and : (a b : Bool) → a ≡ true → b ≡ true → a && b ≡ true
 both-and a b p q = rw (p, q)
@@ -37,9 +34,9 @@ pub record Fits (b : Builder) : Type 0 where
 pub fits-are : (b : Builder) → fitsState b ≡ true → Fits b
 unfolding fitsState
 fits-are b e =
-    let p = and-both (leb (b .state .rows) (rowsRoom b)) _ e in
-    let q = and-both (leb (allBlocks (b .state)) (blockRoom (b .lent))) _ (p .1) in
-    let r = and-both (leb (used (b .state)) (dataRoom (b .lent))) _ (q .1) in
+    let p = both (leb (b .state .rows) (rowsRoom b)) _ e in
+    let q = both (leb (allBlocks (b .state)) (blockRoom (b .lent))) _ (p .1) in
+    let r = both (leb (used (b .state)) (dataRoom (b .lent))) _ (q .1) in
     record { rows = leb-true _ _ (p .0); blocks = leb-true _ _ (q .0); bytes = leb-true _ _ (r .0); growth = r .1 }
 
 pub are-fits : (b : Builder) → Fits b → fitsState b ≡ true

@@ -1,6 +1,9 @@
 //! The static library's calls, made safe: a slice crosses as its pointer and its count of bytes.
 
-pub mod original;
+/// The published files.
+pub mod original {
+    pub use arrow_array::builder::make_view;
+}
 
 mod raw {
     extern "C" {

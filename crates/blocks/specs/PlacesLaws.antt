@@ -4,15 +4,12 @@ use mathlib.Core.Bool.{Bool, true, false, not}
 use mathlib.Core.List.{List, []}
 use mathlib.Core.Logic.{by-cases}
 use Prim.Native.Nat.{ℕ, zero, suc, _+_, _-_, _*_, _≤_, _<_}
-use native.Mathlib.Nat.{not-suc-le-zero}
+use native.Mathlib.Nat.{not-suc-le-zero, add-sub-cancel-left}
 use native.Mathlib.Decide.{ℕ-discrete}
 use native.Mathlib.Omega.{arith}
 use borrow.Author.Tests.{lt-ltb, le-ltb}
-use lib.Dec.{ltb}
 use lib.ListN.{length, take, drop, getD, length-drop}
 use lib.Seq.{length-take-le}
-use native.Mathlib.Nat.{add-sub-cancel-left}
-use Rattle.words.specs.Pick.{pick}
 use Rattle.bounds.specs.Refusals.{refuse, refuse-yes, refuse-no}
 use Rattle.bounds.specs.declared.Refusal.the-variants.{Fit, Range, BadView}
 use Rattle.bounds.specs.declared.Why.{Why}
@@ -23,7 +20,7 @@ use Rattle.column.specs.declared.Column.{Column}
 use Rattle.column.specs.Lent.{Lent, buffers, block, blockAt, fits, inData, dataRoom, allInData}
 use Rattle.column.specs.FitLaws.{and-no}
 use Rattle.column.specs.LowestLaws.{lowest-none, lowest-bad}
-use Rattle.column.specs.Truth.{isTrue, trueAt, lowest}
+use Rattle.column.specs.Truth.{isTrue, trueAt}
 use Rattle.validity.specs.Check.{whyInvalid}
 use Rattle.blocks.specs.Places.{holdsAt, Asks, Answers, Counted, Found, Stopped}
 use Rattle.blocks.specs.SeenLaws.{never}

@@ -5,11 +5,11 @@ ghost use mathlib.Core.Bool.{true};
 ghost use mathlib.Core.List.{List};
 ghost use Prim.Native.Nat.{ℕ, _+_, _*_, _≤_};
 ghost use lib.ListN.{length, getD};
-ghost use Rattle.views.specs.View.{viewSize, viewAt, blockOf};
+ghost use Rattle.views.specs.View.{viewSize, viewAt, lengthOf, blockOf};
 ghost use Rattle.column.specs.declared.Block.{Block};
 ghost use Rattle.column.specs.Lent.{buffers, block, fits};
 ghost use Rattle.column.specs.Meaning.{blocksOf, shown};
-ghost use Rattle.column.specs.Truth.{reachable};
+ghost use Rattle.column.specs.Truth.{reachable, isTrue};
 ghost use Rattle.reading.specs.Reading.{whyValue, valueAt};
 ghost use Rattle.bounds.specs.Bounds.{rowLimit};
 ghost use Rattle.bounds.specs.Refusals.{isAccepted};
@@ -19,10 +19,13 @@ ghost use Rattle.blocks.specs.Both.{bothOf};
 ghost use Rattle.reading.specs.Walk.{cursor, walkValue, walkStep};
 ghost use Rattle.blocks.specs.Seen.{Sees, Spans};
 ghost use Rattle.blocks.specs.Walk.{heldBy, placeAfter};
+ghost use Rattle.validity.specs.Check.{whyInvalid};
+ghost use Rattle.blocks.specs.Places.{Asks, Answers, Counted, Found, Stopped};
 use bounds::Refusal;
 use bounds::Why;
 use column::Block;
 use column::Column;
+use column::Kind;
 use comparison::Compared;
 use comparison::Verdict;
 use order::Order;
@@ -147,7 +150,8 @@ fn why_with<'a>(
 // The part that a reachable view shows, by the record of its block.
 fn part_with<'a>(views: &'a [u8], bytes: &'a [u8], at: usize, b: Block) -> &'a [u8]
     requires { ⌜ (viewSize * at + viewSize ≤ length (now views)) × Spans (now bytes) b (viewAt (now views) at) ⌝ }
-    ensures { λ r. ⌜ ((table : List Block) (nulls : List ℕ) (blocks : ℕ) → b ≡ getD table (blockOf (viewAt (now (views .entry)) at)) (block 0 0)
+    ensures { λ r. ⌜ (length (now r) ≡ lengthOf (viewAt (now (views .entry)) at))
+        × ((table : List Block) (nulls : List ℕ) (blocks : ℕ) → b ≡ getD table (blockOf (viewAt (now (views .entry)) at)) (block 0 0)
         → reachable (buffers (now (views .entry)) (now (bytes .entry)) table nulls) blocks (viewAt (now (views .entry)) at) ≡ true
         → now r ≡ shown (blocksOf (buffers (now (views .entry)) (now (bytes .entry)) table nulls) blocks) (viewAt (now (views .entry)) at)) ⌝ }
 {
@@ -438,4 +442,149 @@ pub fn compare<'a>(
         j,
         s2,
     )
+}
+
+// Whether the view of a row, which counts from row 0 of the views, is true, by the record of the block that it names.
+fn true_with<'a>(
+    views: &'a [u8],
+    bytes: &'a [u8],
+    at: usize,
+    kind: Kind,
+    blocks: usize,
+    b: Block,
+) -> bool
+    requires { ⌜ viewSize * at + viewSize ≤ length (now views) ⌝ }
+    ensures { λ r. ⌜ ((table : List Block) (nulls : List ℕ) → b ≡ getD table (blockOf (viewAt (now (views .entry)) at)) (block 0 0)
+        → r ≡ isTrue (buffers (now (views .entry)) (now (bytes .entry)) table nulls) kind blocks (viewAt (now (views .entry)) at)) ⌝ }
+{
+    if !reach_with(views, bytes, at, blocks, b) {
+        return false;
+    }
+    let value = part_with(views, bytes, at, b);
+    if !column::honest_at(views, at, value) {
+        return false;
+    }
+    column::of_kind(kind, value)
+}
+
+// The number of the record that place k of the check asks for: a row asks for that of the block its view names, a block for its own.
+fn place_of(views: &[u8], c: Column, k: usize) -> usize
+    ensures { λ p. ⌜ Asks (now (views .entry)) c k p ⌝ }
+{
+    let rows = c.rows;
+    if k < rows {
+        return block_of(views, c, k);
+    }
+    k - rows
+}
+
+// Whether place k of the check holds, by the record that it asks for; past the places none does.
+fn judge<'a>(views: &'a [u8], bytes: &'a [u8], c: Column, places: usize, k: usize, b: Block) -> bool
+    ensures { λ r. ⌜ ((table : List Block) (p : ℕ) → Asks (now (views .entry)) c k p → b ≡ getD table p (block 0 0)
+        → Answers (now (views .entry)) (now (bytes .entry)) table c places k r) ⌝ }
+{
+    if places <= k {
+        return false;
+    }
+    let rows = c.rows;
+    if rows <= k {
+        let start = b.start;
+        let len = b.len;
+        return column::in_data(bytes, start, len);
+    }
+    let first = c.first;
+    let room = views.len() / views::VIEW_SIZE;
+    if room <= first {
+        return false;
+    }
+    if room - first <= k {
+        return false;
+    }
+    let kind = c.kind;
+    let blocks = c.blocks;
+    true_with(views, bytes, first + k, kind, blocks, b)
+}
+
+// How many places the check asks: a column's rows and blocks, and none where the column doesn't fit.
+fn places_with<'a>(views: &'a [u8], nulls: &'a [u8], c: Column, count: usize) -> usize
+    ensures { λ n. ⌜ Counted (now (views .entry)) (now (nulls .entry)) c count n ⌝ }
+{
+    if !fits_with(views, nulls, c, count) {
+        return 0;
+    }
+    let rows = c.rows;
+    let blocks = c.blocks;
+    if bounds::BLOCK_LIMIT < blocks {
+        return 0;
+    }
+    rows + blocks
+}
+
+// The verdict of a check that stopped at place k.
+fn check_with<'a>(views: &'a [u8], nulls: &'a [u8], c: Column, count: usize, k: usize) -> Why
+    ensures { λ w. ⌜ ((bytes : List ℕ) (table : List Block) → count ≡ length table
+        → (fits (buffers (now (views .entry)) bytes table (now (nulls .entry))) c ≡ true → Stopped (buffers (now (views .entry)) bytes table (now (nulls .entry))) c k)
+        → w ≡ whyInvalid (buffers (now (views .entry)) bytes table (now (nulls .entry))) c) ⌝ }
+{
+    if !fits_with(views, nulls, c, count) {
+        return Why::Refused(Refusal::Fit);
+    }
+    let rows = c.rows;
+    if k < rows {
+        return Why::Refused(Refusal::BadView(k));
+    }
+    let blocks = c.blocks;
+    if k - rows < blocks {
+        return Why::Refused(Refusal::Range);
+    }
+    Why::Accepted
+}
+
+// Whether place k of the check holds.
+fn holds<'a>(
+    views: &'a [u8],
+    bytes: &'a [u8],
+    table: &'a [Block],
+    c: Column,
+    places: usize,
+    k: usize,
+) -> bool
+    ensures { λ r. ⌜ Answers (now (views .entry)) (now (bytes .entry)) (now (table .entry)) c places k r ⌝ }
+{
+    let p = place_of(views, c, k);
+    let b = block_or(table, p, Block { start: 0, len: 0 });
+    judge(views, bytes, c, places, k, b)
+}
+
+// The first place of the check that doesn't hold, or how many there are.
+fn stop_at<'a>(
+    views: &'a [u8],
+    bytes: &'a [u8],
+    table: &'a [Block],
+    c: Column,
+    places: usize,
+) -> usize
+    ensures { λ k. ⌜ Found (now (views .entry)) (now (bytes .entry)) (now (table .entry)) c places k ⌝ }
+{
+    let mut k = 0;
+    while holds(views, bytes, table, c, places, k) {
+        k += 1;
+    }
+    k
+}
+
+// Why a column isn't valid: its numbers don't fit, the lowest row whose view isn't true, or a block outside the data.
+pub fn check<'a>(
+    views: &'a [u8],
+    bytes: &'a [u8],
+    table: &'a [Block],
+    nulls: &'a [u8],
+    c: Column,
+) -> Why
+    ensures { λ w. ⌜ w ≡ whyInvalid (buffers (now (views .entry)) (now (bytes .entry)) (now (table .entry)) (now (nulls .entry))) c ⌝ }
+{
+    let n = count(table);
+    let places = places_with(views, nulls, c, n);
+    let k = stop_at(views, bytes, table, c, places);
+    check_with(views, nulls, c, n, k)
 }

@@ -6,6 +6,7 @@ use Rattle.bounds.specs.Bounds.{byte-limit-small}
 use Rattle.words.specs.Pick.{part-is}
 use Rattle.column.specs.ReachLaws.{shown-short-at}
 use Rattle.blocks.specs.SeenLaws.{long-shown}
+use Rattle.blocks.specs.PlacesLaws.{part-length}
 use Rattle.blocks.proofs.part_with.Statement.{statement}
 use Rattle.blocks.proofs.part_with.Tie as tie
 
@@ -31,7 +32,7 @@ part-result-end : tie.Need-part-result-end
 part-result-end c = search needs
 
 returns : tie.Need-returns
-returns c = λ table nulls blocks e r. part-is _ _ _ _ _ refl (c .before .before .view-len .ensures .0) ∙ shown-short-at _ _ _ (omega arith)
+returns c = (part-length _ _ _ (omega arith) ∙ c .before .before .view-len .ensures .0, λ table nulls blocks e r. part-is _ _ _ _ _ refl (c .before .before .view-len .ensures .0) ∙ shown-short-at _ _ _ (omega arith))
 
 view-offset-requires : tie.Need-view-offset-requires
 view-offset-requires c κs = search needs
@@ -52,7 +53,7 @@ part-result-end-2 : tie.Need-part-result-end-2
 part-result-end-2 c = let g = c .before .before .before .before .before .pre .1 (omega arith) in omega arith
 
 returns-2 : tie.Need-returns-2
-returns-2 c = λ table nulls blocks e r. long-shown _ _ _ _ _ _ _ e _ _ (c .before .view-offset .ensures .0) (c .before .before .before .view-len .ensures .0) (omega arith) (c .before .before .before .before .before .before .pre .1) r
+returns-2 c = (let g = c .before .before .before .before .before .before .pre .1 (omega arith) in part-length _ _ _ (omega arith) ∙ c .before .before .before .view-len .ensures .0, λ table nulls blocks e r. long-shown _ _ _ _ _ _ _ e _ _ (c .before .view-offset .ensures .0) (c .before .before .before .view-len .ensures .0) (omega arith) (c .before .before .before .before .before .before .pre .1) r)
 
 pub part-with-spec : {M : Type 1} → statement M
 part-with-spec =

@@ -58,7 +58,7 @@ part-with-requires : tie.Need-part-with-requires
 part-with-requires c κs = (let g = c .before .before .before .before .before .before .fits-with .ensures .0 (not-false _ (c .before .before .before .before .before .if1 .left)) in omega arith, c .before .reach-with .ensures .0 (not-false _ (c .if3 .left)))
 
 returns-4 : tie.Need-returns-4
-returns-4 c = λ table sees. let g = c .before .before .before .before .before .before .before .fits-with .ensures .0 (not-false _ (c .before .before .before .before .before .before .if1 .left)) in value-some _ _ _ _ (value-reached _ _ _ (sym (c .before .before .before .before .before .before .before .fits-with .ensures .1 _ table (sees .count)) ∙ not-false _ (c .before .before .before .before .before .before .if1 .left)) (omega arith) (sym (c .before .before .reach-with .ensures .1 table _ (sees .block (omega arith))) ∙ not-false _ (c .before .if3 .left))) (c .part-with .ensures table _ _ (sees .block (omega arith)) (sym (c .before .before .reach-with .ensures .1 table _ (sees .block (omega arith))) ∙ not-false _ (c .before .if3 .left)))
+returns-4 c = λ table sees. let g = c .before .before .before .before .before .before .before .fits-with .ensures .0 (not-false _ (c .before .before .before .before .before .before .if1 .left)) in value-some _ _ _ _ (value-reached _ _ _ (sym (c .before .before .before .before .before .before .before .fits-with .ensures .1 _ table (sees .count)) ∙ not-false _ (c .before .before .before .before .before .before .if1 .left)) (omega arith) (sym (c .before .before .reach-with .ensures .1 table _ (sees .block (omega arith))) ∙ not-false _ (c .before .if3 .left))) (c .part-with .ensures .1 table _ _ (sees .block (omega arith)) (sym (c .before .before .reach-with .ensures .1 table _ (sees .block (omega arith))) ∙ not-false _ (c .before .if3 .left)))
 
 pub value-with-spec : {M : Type 1} → statement M
 value-with-spec =

@@ -1,7 +1,7 @@
 -- No second answer to an batch.
 -- Assumes nothing.
 use mathlib.Core.Path.{sym, _∙_}
-use Rattle.words.specs.Only.{Only}
+use Rattle.basis.specs.Only.{Only}
 use Rattle.batches.proofs.tambuyeel_count_less.Kinds as count-less-kinds
 use Rattle.batches.proofs.tambuyeel_count_less.Reads as count-less
 use Rattle.batches.proofs.tambuyeel_read_all.Kinds as read-all-kinds

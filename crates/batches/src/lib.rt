@@ -2,7 +2,7 @@
 ghost use mathlib.Core.Path.{_≡_};
 ghost use Prim.Native.Nat.{_≤_};
 ghost use lib.Dec.{eqb};
-ghost use Rattle.words.specs.Pick.{pick};
+ghost use Rattle.basis.specs.Pick.{pick};
 ghost use Rattle.column.specs.Lent.{lent};
 ghost use Rattle.exports.specs.Exported.{columnOf};
 ghost use Rattle.batches.specs.Batches.{lessBatch, tasteOf, tasteBatch};

@@ -1,5 +1,5 @@
 -- The verdict on two rows, by the verdicts on each; and what is known of two rows that are compared. Assumes nothing.
-use mathlib.Core.Path.{_≡_, refl, sym, ap, ap₂, subst, _∙_}
+use mathlib.Core.Path.{_≡_, refl, sym, ap, ap₂, _∙_}
 use mathlib.Core.Bool.{Bool, true, false, not, _&&_}
 use mathlib.Core.List.{List}
 use Prim.Native.Nat.{ℕ, _+_, _-_, _*_, _≤_, _<_, Ordering}
@@ -8,10 +8,9 @@ use borrow.Author.Tests.{leb-true, le-leb, lt-leb}
 use lib.Dec.{leb}
 use lib.ListN.{length, take, drop}
 use lib.Seq.{take-all}
-use Rattle.words.specs.Pick.{pick, part-is}
+use Rattle.basis.specs.Pick.{pick, part-is}
 use Rattle.order.specs.Order.{ordering, thenby, cmp, shortOrder}
 use Rattle.order.specs.declared.Order.{Order}
-use Rattle.bounds.specs.Bounds.{rowLimit}
 use Rattle.bounds.specs.Refusals.{refuse, numberOf}
 use Rattle.bounds.specs.declared.Refusal.{Refusal}
 use Rattle.bounds.specs.declared.Refusal.the-variants.{Fit, Row, BadView}

@@ -5,7 +5,7 @@ use mathlib.Core.List.{List}
 use Prim.Native.Nat.{ℕ, _+_, _-_, _*_, _≤_, _<_}
 use lib.Dec.{ltb}
 use lib.ListN.{length}
-use Rattle.words.specs.Pick.{pick}
+use Rattle.basis.specs.Pick.{pick}
 use Rattle.views.specs.View.{viewSize, viewAt, blockOf}
 use Rattle.column.specs.declared.Block.{Block}
 use Rattle.column.specs.declared.Column.{Column}

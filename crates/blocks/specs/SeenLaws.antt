@@ -1,30 +1,28 @@
 -- What fits, is reachable and is shown over a table of which only the count and one record are known. Assumes nothing.
 use mathlib.Core.Path.{_≡_, refl, sym, ap, subst, _∙_}
-use mathlib.Core.Bool.{Bool, true, false, not, _&&_, true≢false}
+use mathlib.Core.Bool.{Bool, true, false, _&&_, true≢false}
 use mathlib.Core.List.{List, [], _∷_}
-use Prim.Native.Nat.{ℕ, zero, suc, _+_, _-_, _*_, _/_, min, _≤_, _<_}
+use Prim.Native.Nat.{ℕ, zero, suc, _+_, _-_, _/_, _≤_, _<_}
 use native.Mathlib.Omega.{arith}
 use borrow.Author.Tests.{le-leb, lt-leb, leb-true, leb-false}
 use lib.Dec.{leb}
 use lib.ListN.{length, take, drop, getD, List·getD-map}
 use lib.Seq.{getD-take, take-take, drop-drop}
-use Rattle.words.specs.Pick.{pick, part-is}
-use Rattle.bounds.specs.Bounds.{rowLimit, blockLimit, byteLimit}
-use Rattle.bounds.specs.Refusals.{refuse, ifAccepted}
+use Rattle.basis.specs.Pick.{pick, part-is}
+use Rattle.bounds.specs.Bounds.{rowLimit, blockLimit}
 use Rattle.bounds.specs.declared.Refusal.{Refusal}
 use Rattle.bounds.specs.declared.Why.the-variants.{Accepted, Refused}
 use Rattle.views.specs.View.{viewSize, shortMost, viewAt, lengthOf, blockOf, offsetOf}
 use Rattle.column.specs.declared.Block.{Block}
 use Rattle.column.specs.declared.Column.{Column}
-use Rattle.column.specs.declared.Reach.{Reach}
-use Rattle.column.specs.declared.Reach.the-variants.{Inside, NoBlock, Outside}
+use Rattle.column.specs.declared.Reach.the-variants.{Inside, Outside}
 use Rattle.column.specs.Lent.{Lent, buffers, block, mapRoom, rowRoom, blockRoom, dataRoom, fits, inData}
 use Rattle.column.specs.Meaning.{bytesOf, blocksOf, shown, shownAt}
-use Rattle.column.specs.Truth.{reachOf, isInside, reachable, reachableAt}
-use Rattle.column.specs.FitLaws.{leb-same, and-left, and-right, and-no, in-data-gives}
+use Rattle.column.specs.Truth.{reachOf, isInside, reachable}
+use Rattle.column.specs.FitLaws.{leb-same, and-no, in-data-gives}
 use Rattle.column.specs.ReachLaws.{reach-short, reach-no-block, reach-long}
 use Rattle.reading.specs.Reading.{whyValue, valueAt}
-use Rattle.blocks.specs.Seen.{Range, Spans}
+use Rattle.blocks.specs.Seen.{Spans}
 
 pub never : {A : Type 0} → false ≡ true → A
 never h = absurd (true≢false (sym h))

@@ -1,5 +1,15 @@
 pub mod State
+pub mod Get
 pub mod Start
 pub mod Values
 pub mod Others
 pub mod Finish
+pub mod Rooms
+pub mod Does
+pub mod DoesLaws
+pub mod RoomLaws
+pub mod StepLaws
+pub mod SearchLaws
+pub mod PutLaws
+pub mod TimesLaws
+pub mod CallLaws

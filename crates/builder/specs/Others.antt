@@ -1,46 +1,55 @@
 -- The builder's other calls: a block, a view of a completed block, a column, and the value of a row. Assumes nothing.
-use mathlib.Core.Bool.{Bool, true, false, not, _&&_}
-use mathlib.Core.List.{List, [], _∷_, _++_, map}
-use Prim.Native.Nat.{ℕ, zero, suc, _+_, _*_}
+use mathlib.Core.Bool.{true, not, _&&_}
+use mathlib.Core.List.{List, _++_}
+use Prim.Native.Nat.{ℕ, zero, suc, _+_}
 use lib.Dec.{leb, ltb}
-use lib.ListN.{length, take, drop, getD, set}
+use lib.ListN.{length, take, drop, set}
 use lib.Seq.{paste}
-use Rattle.words.specs.Pick.{pick}
+use Rattle.basis.specs.Pick.{pick}
 use Rattle.words.specs.Words.{enc}
 use Rattle.bounds.specs.Bounds.{byteLimit}
 use Rattle.bounds.specs.Refusals.{refuse, ifAccepted}
-use Rattle.bounds.specs.declared.Refusal.the-variants.{Fit, Row, TooLong, NotUtf8, RowRoom, BlockRoom, DataRoom, NoBlock, Range, BadView}
+use Rattle.bounds.specs.declared.Refusal.the-variants.{Fit, TooLong, NotUtf8, RowRoom, BlockRoom, DataRoom, NoBlock, Range}
 use Rattle.bounds.specs.declared.Why.{Why}
 use Rattle.bounds.specs.declared.Why.the-variants.{Accepted}
 use Rattle.views.specs.View.{lengthOf, blockOf, isShort, makeView}
 use Rattle.column.specs.declared.Column.{Column}
-use Rattle.column.specs.Lent.{Lent, buffers, blockAt, inData, allInData, fits, blockRoom, dataRoom}
-use Rattle.column.specs.Meaning.{blocksOf, part, rowView, validAt}
+use Rattle.column.specs.Lent.{Lent, buffers, block, blockAt, inData, allInData, fits, blockRoom, dataRoom}
+use Rattle.column.specs.Meaning.{bytesOf, blocksOf, part, rowView, validAt}
 use Rattle.column.specs.Truth.{ofKind, trueAt, lowest}
-use Rattle.column.specs.Laid.{flat, putTable}
+use Rattle.builder.specs.declared.State.{State}
 use Rattle.builder.specs.State.{Builder, builder, moved, rowsRoom, allBlocks, used, fitsState, complete, addRow}
 
--- blocks laid whole, end to end, after the completed ones, the empty ones too
-unfoldable pub layBlocks : List (List ℕ) → Builder → Builder
-layBlocks xs b =
+-- a block laid whole after the completed ones, an empty one too
+unfoldable pub layBlock : List ℕ → Builder → Builder
+layBlock x b =
     let s = b .state in
     let l = b .lent in
     builder
-    (moved s (s .growth) (s .rows) (s .blocks + length xs) (s .base + length (flat xs)) (s .fill) (s .cap) (s .nulled))
-    (buffers (l .views) (paste (l .bytes) (s .base) (flat xs) (length (flat xs))) (putTable (l .table) (s .blocks) (s .base) xs) (l .nulls))
+    (moved s (s .growth) (s .rows) (suc (s .blocks)) (s .base + length x) (s .fill) (s .cap) (s .nulled))
+    (buffers (l .views) (paste (l .bytes) (s .base) x (length x)) (set (l .table) (s .blocks) (block (s .base) (length x))) (l .nulls))
     (b .places)
 
--- room for n blocks and so many bytes after all that is there
-unfoldable pub whyBlocks : ℕ → ℕ → Builder → Why → Why
-whyBlocks n bytes b w =
-    refuse BlockRoom (ltb (blockRoom (b .lent)) (allBlocks (b .state) + n)) (refuse DataRoom (ltb (dataRoom (b .lent)) (used (b .state) + bytes)) w)
+-- n blocks, each after the other
+unfoldable pub layBlocks : ℕ → (ℕ → List ℕ) → Builder → Builder
+layBlocks zero f b = b
+layBlocks (suc n) f b = layBlock (f n) (layBlocks n f b)
+
+-- n blocks and m bytes more than all that is there, in rooms for so many blocks and bytes
+unfoldable pub whyRoom : State → ℕ → ℕ → ℕ → ℕ → Why
+whyRoom s blocks bytes n m = refuse BlockRoom (ltb blocks (allBlocks s + n)) (refuse DataRoom (ltb bytes (used s + m)) Accepted)
 
 unfoldable pub whyBlock : Builder → List ℕ → Why
-whyBlock b x = refuse Fit (not (fitsState b)) (refuse TooLong (ltb byteLimit (length x)) (whyBlocks 1 (length x) b Accepted))
+whyBlock b x =
+    refuse Fit (not (fitsState b))
+    (refuse TooLong (ltb byteLimit (length x)) (whyRoom (b .state) (blockRoom (b .lent)) (dataRoom (b .lent)) 1 (length x)))
 
--- its number is the count of the blocks before it
 unfoldable pub putBlock : List ℕ → Builder → Builder
-putBlock x b = layBlocks (x ∷ []) (complete b)
+putBlock x b = layBlock x (complete b)
+
+-- its number is the count of the blocks before it; 0 where it is refused
+unfoldable pub blockNumber : Builder → List ℕ → ℕ
+blockNumber b x = ifAccepted (whyBlock b x) (allBlocks (b .state)) 0
 
 -- n bytes at an offset of completed block k
 unfoldable pub viewed : Builder → ℕ → ℕ → ℕ → List ℕ
@@ -65,13 +74,22 @@ unfoldable pub addColumn : ℕ → ℕ → Lent → Column → Builder → Build
 addColumn zero before l c b = b
 addColumn (suc n) before l c b = addRow (renumbered before (rowView l c n)) (validAt l c n) (addColumn n before l c b)
 
-unfoldable pub whyColumn : Builder → Lent → Column → Why
-whyColumn b l c =
-    refuse Fit (not (fitsState b && fits l c))
+-- the bytes of a column's block, and the bytes of its first n blocks together
+abbrev pub blockBytes : Lent → ℕ → List ℕ
+blockBytes l k = bytesOf (l .bytes) (blockAt l k)
+
+unfoldable pub sizes : Lent → ℕ → ℕ
+sizes l zero = 0
+sizes l (suc n) = sizes l n + blockAt l n .len
+
+unfoldable pub whyColumn : Lent → Column → Builder → Why
+whyColumn l c b =
+    refuse Fit (not (fitsState b))
+    (refuse Fit (not (fits l c))
     (lowest (trueAt (b .state .kind) l c) (c .rows)
     (refuse Range (not (allInData l (c .blocks)))
     (refuse RowRoom (ltb (rowsRoom b) (b .state .rows + c .rows))
-    (whyBlocks (c .blocks) (length (flat (blocksOf l (c .blocks)))) b Accepted))))
+    (whyRoom (b .state) (blockRoom (b .lent)) (dataRoom (b .lent)) (c .blocks) (sizes l (c .blocks)))))))
 
 unfoldable pub putColumn : Lent → Column → Builder → Builder
-putColumn l c b = addColumn (c .rows) (allBlocks (b .state)) l c (layBlocks (blocksOf l (c .blocks)) (complete b))
+putColumn l c b = addColumn (c .rows) (allBlocks (b .state)) l c (layBlocks (c .blocks) (blockBytes l) (complete b))

@@ -3,7 +3,7 @@ use mathlib.Core.Bool.{Bool}
 use mathlib.Core.List.{List, [], map}
 use Prim.Native.Nat.{ℕ, _+_}
 use lib.ListN.{take, drop, getD}
-use Rattle.words.specs.Pick.{pick}
+use Rattle.basis.specs.Pick.{pick}
 use Rattle.null_bits.specs.Bits as bits
 use Rattle.views.specs.View.{lengthOf, blockOf, offsetOf, bodyOf, isShort, viewAt}
 use Rattle.column.specs.declared.Block.{Block}

@@ -8,7 +8,7 @@ use borrow.Author.Tests.{le-leb, lt-leb, lt-ltb, le-ltb, leb-true, leb-false, lt
 use lib.Dec.{leb, ltb}
 use lib.ListN.{length, take, drop, getD, length-drop, List·getD-map}
 use lib.Seq.{getD-take, take-take, drop-drop, length-take-le}
-use Rattle.words.specs.Pick.{pick, part-is}
+use Rattle.basis.specs.Pick.{pick, part-is}
 use Rattle.bounds.specs.Bounds.{byteLimit}
 use Rattle.views.specs.View.{viewSize, shortMost, lengthOf, blockOf, offsetOf, bodyOf, viewAt}
 use Rattle.views.specs.ViewLaws.{body-at}

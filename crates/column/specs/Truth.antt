@@ -3,8 +3,8 @@ use mathlib.Core.Bool.{Bool, true, false, not, _&&_}
 use mathlib.Core.List.{List, [], _∷_}
 use Prim.Native.Nat.{ℕ, zero, suc, _+_}
 use lib.Dec.{leb, ltb, eqb}
-use lib.ListN.{length, take, drop}
-use Rattle.words.specs.Pick.{pick}
+use lib.ListN.{take, drop}
+use Rattle.basis.specs.Pick.{pick}
 use Rattle.order.specs.Order.{same}
 use Rattle.utf8.specs.Table.{wellFormed}
 use Rattle.views.specs.View.{lengthOf, prefixOf, blockOf, offsetOf, bodyOf, isShort}

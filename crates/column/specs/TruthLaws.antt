@@ -10,7 +10,7 @@ use lib.Dec.{eqb, eqb·suc-zero}
 use lib.ListN.{length, take, drop, length-drop}
 use lib.Seq.{drop-drop, length-take-le}
 use lib.Pow.{high, pow-pos}
-use Rattle.words.specs.Pick.{pick}
+use Rattle.basis.specs.Pick.{pick}
 use Rattle.words.specs.Words.{Bytes, wordAt, dec}
 use Rattle.words.specs.WordLaws.{word-split, word-lt}
 use Rattle.words.specs.ListLaws.{word-dec, bytes-part}

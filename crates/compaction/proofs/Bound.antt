@@ -8,39 +8,33 @@ use borrow.Author.Tests.{leb-true, leb-false, eqb-true, eqb-false, lt-leb, ne-eq
 use lib.Dec.{leb, eqb}
 use lib.ListN.{length, getD, length-append}
 use lib.Seq.{getD-append-seam}
-use Rattle.words.specs.Pick.{pick}
+use Rattle.basis.specs.Pick.{pick}
 use Rattle.views.specs.View.{shortMost, isShort, lengthOf, longView}
 use Rattle.views.specs.ViewLaws.{long-length, long-block}
-use Rattle.bounds.specs.Bounds.{block-limit-small, byte-limit-small}
 use Rattle.bounds.specs.declared.Why.the-variants.{Accepted}
 use Rattle.column.specs.declared.Column.{Column}
 use Rattle.column.specs.Lent.{Lent, blockAt}
-use Rattle.column.specs.Meaning.{rowView, shown, blocksOf}
-use Rattle.column.specs.Laid.{rowsOf, viewsOf, flat}
+use Rattle.column.specs.Meaning.{rowView, blocksOf}
+use Rattle.column.specs.Laid.{viewsOf, flat}
 use Rattle.showing.specs.Row.{Row, Fits}
-use Rattle.showing.specs.Rows.{Rows, rnil, rcons}
-use Rattle.showing.specs.Stores.{blocks-at, block-length}
+use Rattle.showing.specs.Stores.{blocks-at, block-length, getD-rows}
 use Rattle.showing.specs.Rooms.{rooms}
-use Rattle.showing.specs.Shows.{true-rows}
-use Rattle.compaction.specs.Walk.{Walk, walk, keep, close, copy, passIf, pass, passAll, anyLong, walked, blocksOut, viewsOut}
-use Rattle.compaction.specs.Compact.{newBlocks, whyCompact, compacted, compactColumn}
+use Rattle.compaction.specs.Cut.{isNone}
+use Rattle.compaction.specs.Compact.{longOf, valueAt, viewBy, newLens, newView, whyCompact, compacted, compactColumn}
+use Rattle.compaction.specs.LaidLaws.{view-short}
 use Rattle.compaction.specs.Bounded.{points, pointing, Bounded}
-use Rattle.compaction.proofs.Kept.{filled, Small, small-all, small-out, fits-copy}
-use Rattle.compaction.proofs.Compacted.{Room, room, views-back, blocks-back, compact-shows}
+use Rattle.compaction.proofs.Kept.{Fill, filled, close, lay, roomOf, fills, blocksOut, Small, small-fills, fits-lay, view-placed}
+use Rattle.compaction.proofs.Compacted.{Room, room, newBlocks, old-row, bytes-small, views-back, blocks-back, compact-shows}
 
--- how many views of a list point into block k
-abbrev count : ℕ → List (List ℕ) → ℕ
-count k [] = 0
-count k (v ∷ vs) = pick (points k v) 1 0 + count k vs
+-- how many of the first n of these views point into block k
+abbrev pointed : ℕ → (ℕ → List ℕ) → ℕ → ℕ
+pointed k f zero = 0
+pointed k f (suc n) = pointed k f n + pick (points k (f n)) 1 0
 
-count-snoc : (k : ℕ) (vs : List (List ℕ)) (v : List ℕ) → count k (vs ++ v ∷ []) ≡ count k vs + pick (points k v) 1 0
-count-snoc k [] v = omega arith
-count-snoc k (u ∷ vs) v = omega (arith, count-snoc k vs v)
-
-count-rows : (l : Lent) (c : Column) (k n : ℕ) → pointing l c k n ≡ count k (rowsOf (rowView l c) n)
-unfolding pointing rowsOf
-count-rows l c k zero = refl
-count-rows l c k (suc n) = rw (count-rows l c k n) (sym (count-snoc k (rowsOf (rowView l c) n) (rowView l c n)))
+pointed-same : (l : Lent) (c : Column) (f : ℕ → List ℕ) (k n : ℕ) → ((i : ℕ) → i < n → rowView l c i ≡ f i) → pointing l c k n ≡ pointed k f n
+unfolding pointing
+pointed-same l c f k zero h = refl
+pointed-same l c f k (suc n) h = rw (pointed-same l c f k n (λ i j. h i (omega arith)), h n (omega arith))
 
 points-short : (k : ℕ) (v : List ℕ) → isShort (lengthOf v) ≡ true → points k v ≡ false
 unfolding points
@@ -63,100 +57,101 @@ getD-empty [] (suc k) = refl
 getD-empty (e ∷ bs) zero = refl
 getD-empty (e ∷ bs) (suc k) = getD-empty bs k
 
--- through the walk, a block beyond the current one has no rows
-record Bound (most : ℕ) (w : Walk) : Type 0 where
-  over : (k : ℕ) → most < length (getD (filled w) k []) → count k (w .views) ≡ 1
-  beyond : (k : ℕ) → length (w .done) < k → count k (w .views) ≡ 0
+-- p k rows point into block k: one into a block past the maximum, none beyond the current one
+record Bound (most : ℕ) (f : Fill) (p : ℕ → ℕ) : Type 0 where
+  over : (k : ℕ) → most < length (getD (filled f) k []) → p k ≡ 1
+  beyond : (k : ℕ) → length (f .done) < k → p k ≡ 0
 
-bound-keep : (most : ℕ) (v : List ℕ) (w : Walk) → isShort (lengthOf v) ≡ true → Bound most w → Bound most (keep v w)
-bound-keep most v w e i =
-    record {
-      over = λ k h. rw (count-snoc, points-short k v e) (omega (arith, i .over k h));
-      beyond = λ k h. rw (count-snoc, points-short k v e) (omega (arith, i .beyond k h));
-    }
+-- where a value of n bytes goes, it takes no block with rows past the maximum
+record Ready (most n : ℕ) (f : Fill) (p : ℕ → ℕ) : Type 0 where
+  bound : Bound most f p
+  last : most < length (f .now) + n → p (length (f .done)) ≡ 0
 
-bound-close : (most : ℕ) (w : Walk) → Bound most w → Bound most (close w)
-bound-close most w i =
-    record {
-      over = λ k h. i .over k (rw getD-empty at h);
-      beyond = λ k h. i .beyond k (omega (arith, simp length-append at h));
-    }
+ready-room : (most n : ℕ) (f : Fill) (p : ℕ → ℕ) → Bound most f p → Ready most n (roomOf most n f) p
+unfolding roomOf
+ready-room most n f p i = by (leb (length (f .now) + n) most) refl
+  where
+    by : (t : Bool) → leb (length (f .now) + n) most ≡ t → Ready most n (pick t f (close f)) p
+    by true e = record { bound = i; last = λ m. absurd (omega (arith, leb-true (length (f .now) + n) most e)) }
+    by false e =
+        record {
+          bound = record { over = λ k h. i .over k (rw getD-empty at h); beyond = λ k h. i .beyond k (omega (arith, simp length-append at h)) };
+          last = λ m. i .beyond (length (filled f)) (simp length-append (omega arith));
+        }
 
-module _ (most : ℕ) (x : List ℕ) (w : Walk) (h : shortMost < length x) (f : Fits x (length (w .done)) (length (w .now))) (i : Bound most w)
-    (last : most < length (w .now ++ x) → count (length (w .done)) (w .views) ≡ 0) where
-  bound-copy : Bound most (copy x w)
-  bound-copy =
+module _ (most : ℕ) (x v : List ℕ) (f : Fill) (p : ℕ → ℕ) (h : shortMost < length x) (s : Fits x (length (f .done)) (length (f .now))) (e : v ≡ longView x (length (f .done)) (length (f .now)))
+    (r : Ready most (length x) f p) where
+  bound-lay : Bound most (lay x f) (λ k. p k + pick (points k v) 1 0)
+  bound-lay =
       record {
-        over = λ k m. rw (count-snoc, points-long k x (length (w .done)) (length (w .now)) h f) (by k m (eqb (length (w .done)) k) refl);
-        beyond = λ k m.
-            rw (count-snoc, points-long k x (length (w .done)) (length (w .now)) h f, ne-eqb (length (w .done)) k (omega arith)) (omega (arith, i .beyond k m));
+        over = λ k m. rw (e, points-long k x (length (f .done)) (length (f .now)) h s) (by k m (eqb (length (f .done)) k) refl);
+        beyond = λ k m. rw (e, points-long k x (length (f .done)) (length (f .now)) h s, ne-eqb (length (f .done)) k (omega arith)) (omega (arith, r .bound .beyond k m));
       }
     where
-      by : (k : ℕ) → most < length (getD (filled (copy x w)) k []) → (t : Bool) → eqb (length (w .done)) k ≡ t → count k (w .views) + pick t 1 0 ≡ 1
-      by k m true e =
-          let q : length (w .done) ≡ k = eqb-true (length (w .done)) k e in
-          rw (← q) (omega (arith, last (rw (← q, getD-append-seam) at m)))
-      by k m false e = omega (arith, i .over k (rw (getD-other (w .done) (w .now ++ x) (w .now) k (eqb-false (length (w .done)) k e)) at m))
+      by : (k : ℕ) → most < length (getD (filled (lay x f)) k []) → (t : Bool) → eqb (length (f .done)) k ≡ t → p k + pick t 1 0 ≡ 1
+      by k m true q =
+          let z : length (f .done) ≡ k = eqb-true (length (f .done)) k q in
+          let n : most < length (f .now) + length x = rw (length-append (f .now) x) at (rw (← z, getD-append-seam) at m) in
+          rw (← z) (omega (arith, r .last n))
+      by k m false q = omega (arith, r .bound .over k (rw (getD-other (f .done) (f .now ++ x) (f .now) k (eqb-false (length (f .done)) k q)) at m))
 
-bound-pass : (most : ℕ) (w : Walk) {bs : List (List ℕ)} {v x : List ℕ} → Row bs v x → Bound most w → Small (pass most v x w) → Bound most (pass most v x w)
-unfolding pass
-bound-pass most w {bs} {v} {x} c i s = by (isShort (lengthOf v)) (leb (length (w .now) + length x) most) refl refl s
-  where
-    by : (a t : Bool) → isShort (lengthOf v) ≡ a → leb (length (w .now) + length x) most ≡ t → Small (passIf a t v x w) → Bound most (passIf a t v x w)
-    by true t e f s = bound-keep most v w e i
-    by false true e f s =
-        bound-copy most x w (omega (arith, leb-false, c)) (fits-copy x w s) i
-        (λ m. absurd (omega (arith, leb-true, simp length-append at m)))
-    by false false e f s =
-        bound-copy most x (close w) (omega (arith, leb-false, c)) (fits-copy x (close w) s) (bound-close most w i)
-        (λ m. i .beyond (length (close w .done)) (simp length-append (omega arith)))
+module _ (most : ℕ) (view value : ℕ → List ℕ) (bs : List (List ℕ)) where
+  bound-fills : (n : ℕ) → ((r : ℕ) → r < n → Row bs (view r) (value r)) → Small (fills most view value n)
+      → Bound most (fills most view value n) (λ k. pointed k (viewBy most view value) n)
+  unfolding fills
+  bound-fills zero h s = record { over = λ k m. absurd (omega (arith, rw (getD-empty [] k) at m)); beyond = λ k m. refl }
+  bound-fills (suc n) h s =
+      by (isShort (lengthOf (view n))) refl s (bound-fills n (λ r l. h r (omega arith)) (small-fills most view value bs n s))
+    where
+      by : (t : Bool) → isShort (lengthOf (view n)) ≡ t → Small (pick t (fills most view value n) (lay (value n) (roomOf most (lengthOf (view n)) (fills most view value n))))
+          → Bound most (fills most view value n) (λ k. pointed k (viewBy most view value) n)
+          → Bound most (pick t (fills most view value n) (lay (value n) (roomOf most (lengthOf (view n)) (fills most view value n)))) (λ k. pointed k (viewBy most view value) n + pick (points k (viewBy most view value n)) 1 0)
+      by true e s i =
+          record {
+            over = λ k m. rw (view-short most view value n e, points-short k (view n) e) (omega (arith, i .over k m));
+            beyond = λ k m. rw (view-short most view value n e, points-short k (view n) e) (omega (arith, i .beyond k m));
+          }
+      by false e s i =
+          let c = h n (omega arith) in
+          bound-lay most (value n) (viewBy most view value n) (roomOf most (lengthOf (view n)) (fills most view value n)) (λ k. pointed k (viewBy most view value) n)
+          (omega (arith, leb-false (lengthOf (view n)) shortMost e, c .len)) (fits-lay (value n) (roomOf most (lengthOf (view n)) (fills most view value n)) s)
+          (view-placed most view value bs n (λ r l. sym (h r (omega arith) .len)) e)
+          (subst (λ (m : ℕ). Ready most m (roomOf most (lengthOf (view n)) (fills most view value n)) (λ k. pointed k (viewBy most view value) n)) (c .len) (ready-room most (lengthOf (view n)) (fills most view value n) (λ k. pointed k (viewBy most view value) n) i))
 
-bound-all : (most : ℕ) {bs vs ys : List (List ℕ)} → Rows bs vs ys → (w : Walk) → Bound most w → Small (passAll most bs vs w) → Bound most (passAll most bs vs w)
-unfolding passAll
-bound-all most rnil w i s = i
-bound-all most {bs} (rcons {v = v} {x = x} {vs = vs} c cs) w i s =
-    let q : shown bs v ≡ x = c .val in
-    let t : Small (passAll most bs vs (pass most v x w)) = rw q at s in
-    subst (λ (y : List ℕ). Bound most (passAll most bs vs (pass most v y w))) (sym q)
-    (bound-all most cs (pass most v x w) (bound-pass most w c i (small-all most bs vs (pass most v x w) t)) t)
+  bound-out : (n : ℕ) → ((r : ℕ) → r < n → Row bs (view r) (value r)) → length (blocksOut most view value n) < 2 ^ 32 → length (flat (blocksOut most view value n)) < 2 ^ 32
+      → (k : ℕ) → most < length (getD (blocksOut most view value n) k []) → pointed k (viewBy most view value) n ≡ 1
+  unfolding blocksOut
+  bound-out n h p q k m = by (isNone (longOf (λ r. lengthOf (view r)) (λ r. lengthOf (view r)) n)) p q m
+    where
+      by : (t : Bool) → length (pick t [] (filled (fills most view value n))) < 2 ^ 32 → length (flat (pick t [] (filled (fills most view value n)))) < 2 ^ 32
+          → most < length (getD (pick t [] (filled (fills most view value n))) k []) → pointed k (viewBy most view value) n ≡ 1
+      by true p q m = absurd (omega arith)
+      by false p q m = bound-fills n h (record { count = omega (arith, simp length-append at p); bytes = q }) .over k m
 
-bound-none : (most : ℕ) → Bound most (walk [] [] [])
-bound-none most = record { over = λ k h. absurd (omega (arith, rw (getD-empty [] k) at h)); beyond = λ k h. refl }
-
-bound-out : (most : ℕ) {bs vs xs : List (List ℕ)} → Rows bs vs xs → length (blocksOut most bs vs) < 2 ^ 32 → length (flat (blocksOut most bs vs)) < 2 ^ 32
-    → (k : ℕ) → most < length (getD (blocksOut most bs vs) k []) → count k (viewsOut most bs vs) ≡ 1
-unfolding blocksOut viewsOut walked
-bound-out most {bs} {vs} r h g k m = by (anyLong vs) h g m
-  where
-    out : Walk
-    out = passAll most bs vs (walk [] [] [])
-
-    by : (t : Bool) → length (pick t (filled out) []) < 2 ^ 32 → length (flat (pick t (filled out) [])) < 2 ^ 32 → most < length (getD (pick t (filled out) []) k []) → count k (out .views) ≡ 1
-    by true h g m = bound-all most r (walk [] [] []) (bound-none most) (small-out out h g) .over k m
-    by false h g m = absurd (omega arith)
-
-module _ (most : ℕ) (l : Lent) (c : Column) (out : Lent) {xs : List (List ℕ)} (old : Rows (blocksOf l (c .blocks)) (viewsOf l c) xs) (r : Room most l c out) where
+module _ (most : ℕ) (l : Lent) (c : Column) (out : Lent) (r : Room most l c out) where
   -- a block's record says how long the block is
-  block-long : (k : ℕ) → k < length (newBlocks most l c) → length (getD (newBlocks most l c) k []) ≡ blockAt (compacted most l c out) k .len
+  block-long : (k : ℕ) → k < length (newLens most l c) → length (getD (newBlocks most l c) k []) ≡ blockAt (compacted most l c out) k .len
   block-long k h =
-      let s = compact-shows most l c out old r in
+      let s = compact-shows most l c out r in
       let d : List ℕ = compacted most l c out .bytes in
-      ap (λ (bs : List (List ℕ)). length (getD bs k [])) (sym (blocks-back most l c out old r))
-      ∙ ap length (blocks-at (compacted most l c out) (length (newBlocks most l c)) k h)
+      ap (λ (bs : List (List ℕ)). length (getD bs k [])) (sym (blocks-back most l c out r))
+      ∙ ap length (blocks-at (compacted most l c out) (length (newLens most l c)) k h)
       ∙ block-length d (blockAt (compacted most l c out) k) (omega (arith, s .inside k h, rooms true (compacted most l c out)))
 
-  pub compact-bounded : Bounded most (compacted most l c out) (compactColumn most l c)
+  row-back : (i : ℕ) → i < c .rows → rowView (compacted most l c out) (compactColumn most l c) i ≡ newView most l c i
   unfolding viewsOf
+  row-back i h =
+      sym (getD-rows (rowView (compacted most l c out) (compactColumn most l c)) (c .rows) i [] h)
+      ∙ ap (λ (vs : List (List ℕ)). getD vs i []) (views-back most l c out r) ∙ getD-rows (newView most l c) (c .rows) i [] h
+
+  pub compact-bounded : Bounded most (compacted most l c out) (compactColumn most l c)
   compact-bounded =
       let m = rooms true out in
       record {
         single = λ k h g.
-            count-rows (compacted most l c out) (compactColumn most l c) k (c .rows)
-            ∙ ap (count k) (views-back most l c out old r)
-            ∙ bound-out most old (omega (arith, block-limit-small)) (omega (arith, byte-limit-small)) k (rw (block-long k h) g);
+            pointed-same (compacted most l c out) (compactColumn most l c) (newView most l c) k (c .rows) row-back
+            ∙ bound-out most (rowView l c) (valueAt l c) (blocksOf l (c .blocks)) (c .rows) (old-row most l c out r) (bytes-small most l c out r .0) (bytes-small most l c out r .1) k (rw (block-long k h) g);
       }
 
 pub compacted-bounded : (most : ℕ) (l : Lent) (c : Column) (out : Lent) → whyCompact most l c out ≡ Accepted → Bounded most (compacted most l c out) (compactColumn most l c)
-compacted-bounded most l c out e =
-    let r = room most l c out e in
-    compact-bounded most l c out (true-rows (c .kind) l c (r .fitted) (r .judged)) r
+compacted-bounded most l c out e = compact-bounded most l c out (room most l c out e)

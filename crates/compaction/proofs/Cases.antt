@@ -1,52 +1,36 @@
 -- The walk in the paper's first two cases: no long rows leave the views as they are and need no block; long values within the maximum together make one block.
 -- Assumes nothing.
-use mathlib.Core.Path.{_≡_, refl, sym, _∙_}
-use mathlib.Core.Bool.{Bool, true, false}
-use mathlib.Core.List.{List, [], _∷_, _++_, append-nil, append-assoc}
-use Prim.Native.Nat.{ℕ, _+_, _≤_}
+use mathlib.Core.Path.{_≡_, refl, _∙_}
+use mathlib.Core.Bool.{true}
+use mathlib.Core.List.{List, [], _∷_}
+use Prim.Native.Nat.{ℕ, _+_, _≤_, _<_}
 use native.Mathlib.Omega.{arith}
 use borrow.Author.Tests.{le-leb}
-use lib.Dec.{leb}
-use lib.ListN.{length, length-append}
-use Rattle.words.specs.Pick.{pick}
-use Rattle.views.specs.View.{isShort, lengthOf}
-use Rattle.column.specs.Meaning.{shown}
-use Rattle.compaction.specs.Walk.{Walk, walk, keep, copy, passIf, pass, passAll, anyLong, walked, blocksOut, viewsOut}
-use Rattle.compaction.proofs.Kept.{views-short}
+use Rattle.views.specs.View.{lengthOf}
+use Rattle.compaction.specs.Cut.{Cut, cut, isNone, roomFor, cutFrom, cutAll, cutLens}
+use Rattle.compaction.specs.Compact.{longOf, viewBy}
+use Rattle.compaction.specs.LaidLaws.{view-short}
+use Rattle.compaction.proofs.Kept.{none-short}
+use Rattle.laying.specs.Written.{total}
 
-pub no-block : (most : ℕ) (bs vs : List (List ℕ)) → anyLong vs ≡ false → (blocksOut most bs vs ≡ []) × (viewsOut most bs vs ≡ vs)
-unfolding blocksOut viewsOut walked
-no-block most bs vs e = (rw e, views-short most bs vs (walk [] [] []) e)
+-- no long row
+pub no-block : (most : ℕ) → cutLens most [] ≡ []
+unfolding cutLens
+no-block most = refl
 
--- what the long rows show, end to end
-unfoldable pub longBytes : List (List ℕ) → List (List ℕ) → List ℕ
-longBytes bs [] = []
-longBytes bs (v ∷ vs) = pick (isShort (lengthOf v)) [] (shown bs v) ++ longBytes bs vs
+pub views-kept : (most : ℕ) (view value : ℕ → List ℕ) (n : ℕ) → isNone (longOf (λ r. lengthOf (view r)) (λ r. lengthOf (view r)) n) ≡ true → (r : ℕ) → r < n → viewBy most view value r ≡ view r
+views-kept most view value n e r h = view-short most view value r (none-short (λ q. lengthOf (view q)) n e r h)
 
-pub record Open (w u : Walk) (x : List ℕ) : Type 0 where
-  pub done : u .done ≡ w .done
-  pub now : u .now ≡ w .now ++ x
+-- the total within the maximum
+pub never-closed : (most : ℕ) (ns : List ℕ) (c : Cut) → c .fill + total ns ≤ most → cutFrom most ns c ≡ cut (c .done) (c .fill + total ns)
+unfolding cutFrom total roomFor
+never-closed most [] c h = let e : c .fill + 0 ≡ c .fill = omega arith in rw e
+never-closed most (n ∷ ns) c h =
+    let e : c .fill + n + total ns ≡ c .fill + (n + total ns) = omega arith in
+    rw (le-leb (c .fill + n) most (omega arith)) (never-closed most ns (cut (c .done) (c .fill + n)) (omega arith) ∙ rw e)
 
-never-closed : (most : ℕ) (bs vs : List (List ℕ)) (w : Walk) → length (w .now) + length (longBytes bs vs) ≤ most → Open w (passAll most bs vs w) (longBytes bs vs)
-unfolding passAll longBytes pass
-never-closed most bs [] w h = record { done = refl; now = sym (append-nil (w .now)) }
-never-closed most bs (v ∷ vs) w h = by (isShort (lengthOf v)) (never-closed most bs vs) h
-  where
-    x : List ℕ
-    x = shown bs v
-
-    by : (t : Bool) → ((u : Walk) → length (u .now) + length (longBytes bs vs) ≤ most → Open u (passAll most bs vs u) (longBytes bs vs))
-        → length (w .now) + length (pick t [] x ++ longBytes bs vs) ≤ most
-        → Open w (passAll most bs vs (passIf t (leb (length (w .now) + length x) most) v x w)) (pick t [] x ++ longBytes bs vs)
-    by true more h = let o = more (keep v w) h in record { done = o .done; now = o .now }
-    by false more h =
-        let k : length (w .now) + (length x + length (longBytes bs vs)) ≤ most = rw length-append at h in
-        let o = more (copy x w) (rw length-append (omega arith)) in
-        rw (le-leb (length (w .now) + length x) most (omega arith))
-        (record { done = o .done; now = o .now ∙ append-assoc (w .now) x (longBytes bs vs) })
-
-pub one-block : (most : ℕ) (bs vs : List (List ℕ)) → anyLong vs ≡ true → length (longBytes bs vs) ≤ most → blocksOut most bs vs ≡ longBytes bs vs ∷ []
-unfolding blocksOut walked
-one-block most bs vs e h =
-    let o = never-closed most bs vs (walk [] [] []) (omega arith) in
-    rw (e, o .done, o .now)
+pub one-block : (most n : ℕ) (ns : List ℕ) → total (n ∷ ns) ≤ most → cutLens most (n ∷ ns) ≡ total (n ∷ ns) ∷ []
+unfolding cutLens cutAll
+one-block most n ns h =
+    let e : 0 + total (n ∷ ns) ≡ total (n ∷ ns) = omega arith in
+    rw (never-closed most (n ∷ ns) (cut [] 0) (omega arith), e)

@@ -4,7 +4,7 @@ use mathlib.Core.Bool.{Bool, not, _&&_}
 use mathlib.Core.List.{List}
 use Prim.Native.Nat.{ℕ, zero, suc, _+_, _<_}
 use lib.Dec.{eqb}
-use Rattle.words.specs.Pick.{pick}
+use Rattle.basis.specs.Pick.{pick}
 use Rattle.views.specs.View.{lengthOf, blockOf, isShort}
 use Rattle.column.specs.declared.Column.{Column}
 use Rattle.column.specs.Lent.{Lent, blockAt}

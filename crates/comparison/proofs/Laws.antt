@@ -4,7 +4,7 @@ use mathlib.Core.Bool.{true, false, _&&_, true≢false}
 use mathlib.Core.List.{List}
 use Prim.Native.Nat.{ℕ, _+_, _-_, _*_, Ordering, Ordering·lt, Ordering·eq, Ordering·gt}
 use lib.ListN.{take, drop}
-use Rattle.words.specs.Pick.{part-is}
+use Rattle.basis.specs.Pick.{part-is}
 use Rattle.order.specs.Order.{thenby, cmp, shortOrder}
 use Rattle.views.specs.View.{lengthOf, prefixOf, bodyOf, isShort, viewAt}
 use Rattle.column.specs.Meaning.{shown}

@@ -1,7 +1,7 @@
 -- No second answer to a comparison or to the question whether two columns are the same.
 -- Assumes nothing.
 use mathlib.Core.Path.{sym, _∙_}
-use Rattle.words.specs.Only.{Only}
+use Rattle.basis.specs.Only.{Only}
 use Rattle.comparison.proofs.compare.Kinds as compare-kinds
 use Rattle.comparison.proofs.compare.Reads as compare
 use Rattle.comparison.proofs.same_column.Kinds as same-column-kinds

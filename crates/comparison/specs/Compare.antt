@@ -3,7 +3,7 @@ use mathlib.Core.Bool.{Bool, true, false, not, _&&_}
 use mathlib.Core.List.{List}
 use Prim.Native.Nat.{ℕ, compare, Ordering, Ordering·lt, Ordering·eq, Ordering·gt}
 use lib.Dec.{leb}
-use Rattle.words.specs.Pick.{pick}
+use Rattle.basis.specs.Pick.{pick}
 use Rattle.order.specs.Order.{thenby, cmp}
 use Rattle.order.specs.declared.Order.{Order}
 use Rattle.order.specs.declared.Order.the-variants.{Less, Equal, Greater}

@@ -1,11 +1,11 @@
 -- A copy in two parts that overlap. Assumes nothing.
-use Prim.Native.Nat.{ℕ, suc, _+_, _-_, _<_, _≤_, min}
+use Prim.Native.Nat.{ℕ, _+_, _-_, _≤_}
 use native.Mathlib.Omega.{arith}
-use mathlib.Core.Path.{_≡_, refl, sym, ap, _∙_}
-use mathlib.Core.List.{List, _++_, append-nil, append-assoc}
-use lib.ListN.{length, take, drop, length-append, length-take, length-drop, take-append-drop}
+use mathlib.Core.Path.{_≡_, sym, ap, _∙_}
+use mathlib.Core.List.{List, _++_, append-assoc}
+use lib.ListN.{length, take, drop, length-drop, take-append-drop}
 use Rattle.copy.specs.OverLaws.{tail-back}
-use lib.Seq.{take-at, drop-at, take-all, take-append-le, take-take, drop-drop, length-take-le, take-length, drop-length, take-add}
+use lib.Seq.{drop-at, take-all, take-append-le, take-take, drop-drop, length-take-le}
 
 -- the first m elements, then the tail from o ≤ m on: the two may overlap
 pub overlap : (d s t y : List ℕ) (m o : ℕ) → o ≤ m → m ≤ length s → t ≡ take m s ++ drop (length (take m s)) d

@@ -1,7 +1,7 @@
 -- No second result of a copy. Assumes nothing.
-use mathlib.Core.Path.{_≡_, sym, _∙_}
+use mathlib.Core.Path.{sym, _∙_}
 use denote.Ref.{now}
-use Rattle.words.specs.Only.{Only}
+use Rattle.basis.specs.Only.{Only}
 use Rattle.copy.proofs.copy.Kinds as copy-kinds
 use Rattle.copy.proofs.copy.Reads as copy
 

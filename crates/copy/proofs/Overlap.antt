@@ -1,15 +1,14 @@
 -- Words that overlap: a value of 8 to 32 bytes stored by two or four words. Assumes nothing.
 use Prim.Native.Nat.{ℕ, zero, suc, _+_, _-_, _*_, _/_, _%_, _^_, _<_, _≤_}
-use native.Mathlib.Nat.{add-zero, add-suc, mul-comm, add-comm}
-use native.Mathlib.Numerals.{add-one, one-add}
+use native.Mathlib.Nat.{add-suc}
+use native.Mathlib.Numerals.{add-one}
 use native.Mathlib.Omega.{arith}
-use mathlib.Core.Path.{_≡_, refl, sym, ap, _∙_}
+use mathlib.Core.Path.{_≡_, refl, sym, _∙_}
 use mathlib.Core.Bool.{Bool, true, false}
 use mathlib.Core.List.{List, _++_}
 use borrow.Author.Tests.{leb-true, leb-false, ltb-true, ltb-false}
 use lib.Dec.{leb, ltb}
-use lib.ListN.{length, getD, set, drop, length-append, length-drop, List·getD-append}
-use lib.Pow.{high}
+use lib.ListN.{length, getD, drop, length-append, length-drop, List·getD-append}
 use lib.Seq.{ext-getD, getD-append-add, getD-drop, getD-set-same, getD-set-other}
 use Rattle.words.specs.Words.{Bytes, wordAt, putWord}
 use Rattle.words.specs.WordLaws.{word-digit, length-put}

@@ -65,7 +65,7 @@ fn chunks(src: &[u8], dst: &mut [u8])
     let n = src.len();
     let mut o = 0;
     while o < n {
-        let e = o + words::least(n - o, CHUNK);
+        let e = o + basis::least(n - o, CHUNK);
         chunk(&src[o..e], &mut dst[o..]);
         o = e;
     }

@@ -1,7 +1,7 @@
 -- No second answer to an exported call.
 -- Assumes nothing.
 use mathlib.Core.Path.{sym, _∙_}
-use Rattle.words.specs.Only.{Only}
+use Rattle.basis.specs.Only.{Only}
 use Rattle.exports.proofs.tambuyeel_why_value.Kinds as why-value-kinds
 use Rattle.exports.proofs.tambuyeel_why_value.Reads as why-value
 use Rattle.exports.proofs.tambuyeel_check.Kinds as check-kinds

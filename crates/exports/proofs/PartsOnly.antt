@@ -1,7 +1,7 @@
 -- No second answer to an exported call on a row's parts, lengths, null bits, slices and totals.
 -- Assumes nothing.
 use mathlib.Core.Path.{sym, _∙_}
-use Rattle.words.specs.Only.{Only}
+use Rattle.basis.specs.Only.{Only}
 use Rattle.exports.proofs.parts.tambuyeel_prefix.Kinds as prefix-kinds
 use Rattle.exports.proofs.parts.tambuyeel_prefix.Reads as prefix
 use Rattle.exports.proofs.parts.tambuyeel_suffix.Kinds as suffix-kinds

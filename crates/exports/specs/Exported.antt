@@ -4,7 +4,7 @@ use mathlib.Core.List.{List}
 use Prim.Native.Nat.{ℕ, _+_, _*_}
 use lib.Dec.{eqb}
 use lib.ListN.{take, drop, getD}
-use Rattle.words.specs.Pick.{pick}
+use Rattle.basis.specs.Pick.{pick}
 use Rattle.bounds.specs.Refusals.{numberOf, rowOf}
 use Rattle.bounds.specs.declared.Why.{Why}
 use Rattle.bounds.specs.declared.Why.the-variants as why

@@ -8,7 +8,7 @@ use borrow.Author.Tests.{le-leb, lt-leb, leb-true, leb-false}
 use lib.Dec.{eqb, leb}
 use lib.ListN.{length, take, drop, getD}
 use lib.Seq.{take-take, drop-drop}
-use Rattle.words.specs.Pick.{pick}
+use Rattle.basis.specs.Pick.{pick}
 use Rattle.bounds.specs.Bounds.{row-limit-is, byteLimit, byte-limit-is}
 use Rattle.bounds.specs.Refusals.{isAccepted, ifAccepted}
 use Rattle.bounds.specs.declared.Why.{Why}

@@ -1,7 +1,7 @@
 -- The parts of a value's place, and numbers, bits and slices as C and Rust see them. Assumes nothing.
 use Prim.Native.Nat.{ℕ, _+_, _-_}
 use lib.Dec.{leb}
-use Rattle.words.specs.Pick.{pick}
+use Rattle.basis.specs.Pick.{pick}
 use Rattle.bounds.specs.Refusals.{numberOf}
 use Rattle.reading.specs.declared.Number.{Number}
 use Rattle.reading.specs.declared.Number.the-variants as number

@@ -4,7 +4,7 @@ use Prim.Native.Nat.{ℕ, zero, suc, _+_, _-_, _*_, _/_, _%_, _^_}
 use lib.Bits.{bitOr, bitXor}
 use lib.Dec.{ltb}
 use lib.ListN.{length}
-use Rattle.words.specs.Pick.{pick}
+use Rattle.basis.specs.Pick.{pick}
 use Rattle.words.specs.Words.{wordAt}
 
 unfoldable pub rotl : ℕ → ℕ

@@ -1,12 +1,12 @@
 -- Laws of the batches: a sum by one more, values that lie in the bytes or don't, a copy by one part more. Assumes nothing.
-use mathlib.Core.Path.{_≡_, refl, sym, ap, _∙_}
-use mathlib.Core.List.{List, _++_}
-use Prim.Native.Nat.{ℕ, zero, suc, _+_, _-_, _*_, _/_, _%_, _^_, _<_, _≤_, min}
+use mathlib.Core.Path.{_≡_, refl, sym, _∙_}
+use mathlib.Core.List.{List}
+use Prim.Native.Nat.{ℕ, _+_, _-_, _*_, _/_, _%_, _^_, _<_, _≤_}
 use native.Mathlib.Nat.{add-mul, one-mul, div-add-mod', div-eq-of-lt-le, add-zero, mul-zero}
 use native.Mathlib.Numerals.{add-one}
 use native.Mathlib.Omega.{arith}
-use lib.ListN.{length, take, drop}
-use Rattle.words.specs.Pick.{ifLe, le-yes, le-no}
+use lib.ListN.{length}
+use Rattle.basis.specs.Pick.{le-yes, le-no}
 use Rattle.copy.specs.Over.{copied}
 use Rattle.leaf_exports.specs.Batches.{summed, ifIn}
 

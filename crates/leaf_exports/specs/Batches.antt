@@ -1,9 +1,9 @@
 -- What the batches answer: sums modulo 2 ^ 64 over runs of rows and over neighbouring values, and parts copied. Assumes nothing.
-use mathlib.Core.Bool.{Bool, true, false}
+use mathlib.Core.Bool.{Bool, true}
 use mathlib.Core.List.{List}
 use Prim.Native.Nat.{ℕ, zero, suc, _+_, _-_, _*_, _/_, _%_, _^_, min, Ordering, Ordering·lt, Ordering·eq, Ordering·gt}
 use lib.ListN.{length, take, drop, getD}
-use Rattle.words.specs.Pick.{pick, ifLe}
+use Rattle.basis.specs.Pick.{pick, ifLe}
 use Rattle.null_bits.specs.Bits.{countNulls}
 use Rattle.copy.specs.Over.{copied}
 use Rattle.order.specs.Order.{cmp, same}

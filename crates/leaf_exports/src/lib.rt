@@ -1,8 +1,7 @@
 // The leaves in batches, for C and Rust: what is measured is the work, not the call.
 ghost use mathlib.Core.Path.{_≡_};
-ghost use Prim.Native.Nat.{ℕ, _+_, _*_, _/_, _≤_, min};
-ghost use lib.ListN.{length, take, drop, getD};
-ghost use Rattle.words.specs.Pick.{pick};
+ghost use Prim.Native.Nat.{_+_, _/_};
+ghost use Rattle.basis.specs.Pick.{pick};
 ghost use Rattle.order.specs.Order.{ordering};
 ghost use Rattle.leaf_exports.specs.Batches.{nullsBatch, partsCopied, oneIfLess, pairIn, pairsBatch};
 
@@ -36,7 +35,7 @@ pub extern "C" fn leaf_copy_parts(src: &[u8], dst: &mut [u8], n: usize)
     if n == 0 {
         return;
     }
-    let room = words::least(src.len(), dst.len());
+    let room = basis::least(src.len(), dst.len());
     let mut o = 0;
     while n <= room - o {
         let e = o + n;

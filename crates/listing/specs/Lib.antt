@@ -1,1 +1,3 @@
-pub mod Listing
+pub mod Text
+pub mod Put
+pub mod Laws

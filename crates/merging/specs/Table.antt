@@ -3,9 +3,9 @@
 use mathlib.Core.Path.{_≡_}
 use mathlib.Core.Bool.{Bool, true, false}
 use mathlib.Core.List.{List, [], _∷_}
-use Prim.Native.Nat.{ℕ, zero, suc, _+_, _%_, _≤_, _<_}
+use Prim.Native.Nat.{ℕ, zero, suc, _%_, _≤_, _<_}
 use lib.Dec.{eqb}
-use lib.ListN.{length, getD}
+use lib.ListN.{length, getD, set}
 use Rattle.merging.specs.declared.Found.{Found}
 use Rattle.merging.specs.declared.Found.the-variants.{Row, Free, Full}
 use Rattle.merging.specs.Earliest.{In}
@@ -35,6 +35,23 @@ seek t hit p (suc k) = onEntry hit p (getD t p 0) (seek t hit (after (length t) 
 -- every place once, from the place of a hash
 unfoldable pub search·from : List ℕ → (ℕ → Bool) → ℕ → Found
 search·from t hit h = seek t hit (h % length t) (length t)
+
+-- whether a search ended at a row, and the row
+abbrev pub isRow : Found → Bool
+isRow (Row r) = true
+isRow (Free p) = false
+isRow Full = false
+
+abbrev pub rowOf : Found → ℕ
+rowOf (Row r) = r
+rowOf (Free p) = 0
+rowOf Full = 0
+
+-- an entry written at the place that a search ended at, if it ended at one
+abbrev pub entered : Found → ℕ → List ℕ → List ℕ
+entered (Row r) e t = t
+entered (Free p) e t = set t p e
+entered Full e t = t
 
 -- how many places are not empty
 unfoldable pub filled : List ℕ → ℕ

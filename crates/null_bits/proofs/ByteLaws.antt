@@ -3,8 +3,8 @@ use mathlib.Core.Path.{_≡_, refl, sym, ap, _∙_}
 use mathlib.Core.Bool.{Bool, true, false}
 use mathlib.Core.List.{List}
 use Prim.Native.Nat.{ℕ, zero, suc, _+_, _-_, _*_, _/_, _%_, _^_, _≤_, _<_}
-use native.Mathlib.Nat.{mod-lt, mod-one, add-zero, zero-add, add-suc, add-comm, add-assoc, mul-one, mul-add, add-mul, mul-assoc, mul-comm, div-one, zero-div, mod-eq-of-lt}
-use native.Mathlib.Numerals.{one-add, add-one}
+use native.Mathlib.Nat.{mod-lt, add-comm, mul-comm, div-one, zero-div, mod-eq-of-lt}
+use native.Mathlib.Numerals.{one-add}
 use native.Mathlib.Omega.{arith}
 use borrow.Author.Tests.{eqb-true, eqb-false, ltb-true, ltb-false}
 use lib.Arith.{digits-lt}
@@ -12,7 +12,7 @@ use lib.Dec.{eqb, ltb}
 use lib.ListN.{length, getD, set, length-set}
 use lib.Bits.{bitAnd}
 use lib.Pow.{pow-pos, shl-exact, pow-add, shr-shr, mod-pow-add, field, mod-mod-pow, shr-mod}
-use lib.Seq.{getD-set-same, getD-set-other, set-set}
+use lib.Seq.{getD-set-same, set-set}
 use Rattle.null_bits.specs.Bits.{bitAt, isValid, putBit, putIn, bitOf}
 use Rattle.null_bits.specs.Runs.{putBits, digit}
 use Rattle.null_bits.specs.RunLaws.{bits-add, bits-same}

@@ -1,17 +1,16 @@
 -- Laws of null bits on plain numbers and lists, which the functions' proofs cite.
 -- Assumes nothing.
-use mathlib.Core.Path.{_≡_, refl, sym, ap, ap₂, _∙_}
+use mathlib.Core.Path.{_≡_, refl, sym, ap, _∙_}
 use mathlib.Core.List.{List}
 use Prim.Native.Nat.{ℕ, zero, suc, _+_, _-_, _*_, _/_, _%_, _^_, _≤_, _<_}
-use native.Mathlib.Nat.{mod-lt, mod-one, add-zero, add-suc, add-comm, add-assoc, one-mul, mul-le-mul-right, mul-suc, mul-add, div-one, mod-eq-of-lt, mul-one}
-use native.Mathlib.Numerals.{add-one, one-add}
+use native.Mathlib.Nat.{mod-lt, mod-one, add-comm, one-mul, mul-le-mul-right, mul-suc, mul-add, div-one, mod-eq-of-lt}
+use native.Mathlib.Numerals.{one-add}
 use native.Mathlib.Omega.{arith}
-use lib.Pow.{pow-pos, pow-mono, pow-lt, mod-pow-add, shr-shr, shl-exact, pow-add}
-use lib.Arith.{digits-lt}
+use lib.Pow.{pow-pos, pow-mono, mod-pow-add, shr-shr, shl-exact}
 use lib.Count.{ones, ones-cat, ones-le}
-use lib.Dec.{lit<, lit≤}
+use lib.Dec.{lit<}
 use lib.Bits.{bitAnd, bitOr, and-mask, or-shifted-r}
-use lib.ListN.{length, getD}
+use lib.ListN.{getD}
 use Rattle.words.specs.Words.{Bytes, wordAt}
 use Rattle.words.specs.WordLaws.{word-lt}
 use Rattle.null_bits.specs.Bits.{bitAt, countValid}

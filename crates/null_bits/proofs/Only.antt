@@ -1,8 +1,8 @@
 -- No second answer to a read, an append, a count, or a run of bits written.
 -- Assumes nothing.
-use mathlib.Core.Path.{_≡_, sym, _∙_}
+use mathlib.Core.Path.{sym, _∙_}
 use denote.Ref.{now}
-use Rattle.words.specs.Only.{Only}
+use Rattle.basis.specs.Only.{Only}
 use Rattle.null_bits.proofs.valid_at.Kinds as valid-at-kinds
 use Rattle.null_bits.proofs.valid_at.Reads as valid-at
 use Rattle.null_bits.proofs.put_bit.Kinds as put-bit-kinds

@@ -10,10 +10,9 @@ use native.Mathlib.Decide.{ℕ-discrete}
 use native.Mathlib.Omega.{arith}
 use lib.Dec.{eqb}
 use lib.Pow.{pow-pos, pow-mono, mod-mod-pow, field, high, low}
-use lib.ListN.{length, getD, set, length-set}
+use lib.ListN.{length, getD, length-set}
 use lib.Seq.{getD-set-same, getD-set-other}
 use Rattle.null_bits.specs.Bits.{bitAt, isValid, countValid, putBit, putIn, bitOf}
-use Rattle.null_bits.specs.CountLaws.{bit-is}
 
 bit-one : (v : Bool) → bitOf v % 2 ≡ bitOf v
 bit-one true = refl

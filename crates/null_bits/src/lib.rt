@@ -1,10 +1,10 @@
 // Null bits: a row's bit read and written, and nulls counted over a run of rows by ones in masked bytes and words of the map.
 // Leaves: their callers know that the rows lie in the map. A column without a map has no nulls.
 ghost use mathlib.Core.Path.{_≡_};
-ghost use mathlib.Core.Bool.{true, false};
-ghost use Prim.Native.Nat.{ℕ, _+_, _*_, _/_, _%_, _^_, _≤_, _<_};
-ghost use lib.ListN.{length, getD};
-ghost use Rattle.null_bits.specs.Bits.{bitAt, isValid, validAt, countValid, countNulls, putBit, Counted};
+ghost use mathlib.Core.Bool.{true};
+ghost use Prim.Native.Nat.{_+_, _*_, _/_, _%_, _^_, _≤_, _<_};
+ghost use lib.ListN.{length};
+ghost use Rattle.null_bits.specs.Bits.{isValid, validAt, countNulls, putBit, Counted};
 
 pub mod runs;
 

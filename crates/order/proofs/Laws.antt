@@ -1,18 +1,17 @@
 -- Laws of the byte order: what equal bytes, words that differ and lengths decide. Assumes nothing.
-use mathlib.Core.Path.{_≡_, refl, sym, ap, ap₂, _∙_}
-use mathlib.Core.Bool.{Bool, true, false}
+use mathlib.Core.Path.{_≡_, refl, sym, _∙_}
 use mathlib.Core.List.{List, [], _∷_}
 use Prim.Native.Nat.{ℕ, zero, suc, _+_, _-_, _*_, _/_, _%_, _^_, _≤_, _<_, min, compare, Ordering, Ordering·lt, Ordering·eq, Ordering·gt, compare·zero-zero, compare·zero-suc, compare·suc-zero, compare·suc-suc}
-use native.Mathlib.Nat.{add-zero, add-suc, zero-add, le-of-suc-le-suc, not-suc-le-zero}
+use native.Mathlib.Nat.{add-zero, add-suc, zero-add}
 use native.Mathlib.Omega.{arith}
 use borrow.Author.Count.{below-more}
-use lib.Bits.{bitAnd, bitOr, bitXor, or-add-and, xor-add-and, and-le-l, and-le-r, xor-self}
+use lib.Bits.{bitOr, bitXor, or-add-and, xor-add-and, and-le-l, and-le-r, xor-self}
 use lib.ListN.{length, getD, take, drop, drop-of-length-le, length-drop}
 use lib.Seq.{drop-cons, ext-getD, length-take-le}
 use Rattle.words.specs.Words.{Bytes, wordAt, beAt}
 use Rattle.words.specs.WordLaws.{word-digit}
 use Rattle.words.specs.ListLaws.{be-part, bytes-part}
-use Rattle.order.specs.Order.{thenby, cmp, shortOrder, Agree}
+use Rattle.order.specs.Order.{thenby, cmp, Agree}
 use Rattle.order.specs.OrderLaws.{compare-lt, compare-gt, compare-eq, Tri, below, level, above, tri}
 
 assoc : (c o p : Ordering) → thenby (thenby c o) p ≡ thenby c (thenby o p)

@@ -1,7 +1,7 @@
 -- No second answer to a comparison or to the question of sameness.
 -- Assumes nothing.
-use mathlib.Core.Path.{_≡_, sym, _∙_}
-use Rattle.words.specs.Only.{Only}
+use mathlib.Core.Path.{sym, _∙_}
+use Rattle.basis.specs.Only.{Only}
 use Rattle.order.specs.OrderLaws.{ordering-one}
 use Rattle.order.proofs.cmp.Kinds as cmp-kinds
 use Rattle.order.proofs.cmp.Reads as cmp

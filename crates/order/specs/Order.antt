@@ -5,7 +5,7 @@ use mathlib.Core.List.{List, [], _∷_}
 use Prim.Native.Nat.{ℕ, _+_, _<_, compare, Ordering, Ordering·lt, Ordering·eq, Ordering·gt}
 use lib.Dec.{eqb}
 use lib.ListN.{getD, drop}
-use Rattle.words.specs.Pick.{pick}
+use Rattle.basis.specs.Pick.{pick}
 use Rattle.words.specs.Words.{wordAt}
 use Rattle.order.specs.declared.Order.{Order}
 use Rattle.order.specs.declared.Order.the-variants.{Less, Equal, Greater}

@@ -2,9 +2,8 @@
 // where the shorter slice ends, over bytes that were compared before.
 ghost use mathlib.Core.Path.{_≡_};
 ghost use mathlib.Core.Bool.{true, false};
-ghost use Prim.Native.Nat.{ℕ, _+_, _≤_, _<_, min, compare};
-ghost use lib.ListN.{length, getD, take, drop};
-ghost use Rattle.words.specs.Words.{wordAt};
+ghost use Prim.Native.Nat.{_+_, _≤_, _<_, min, compare};
+ghost use lib.ListN.{length, take, drop};
 ghost use Rattle.order.specs.Order.{cmp, same, shortOrder, ordering, Agree};
 
 pub enum Order {
@@ -97,7 +96,7 @@ fn by_bytes(a: &[u8], b: &[u8], n: usize) -> Order
 pub fn cmp(a: &[u8], b: &[u8]) -> Order
     ensures { λ r. ⌜ ordering r ≡ cmp (now (a .entry)) (now (b .entry)) ⌝ }
 {
-    let n = words::least(a.len(), b.len());
+    let n = basis::least(a.len(), b.len());
     if n < 8 {
         return by_bytes(a, b, n);
     }

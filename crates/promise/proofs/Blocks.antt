@@ -1,23 +1,24 @@
 -- The blocks of a builder through its small steps. Assumes nothing.
-use mathlib.Core.Path.{_≡_, refl, sym, ap, _∙_}
+use mathlib.Core.Path.{_≡_, refl, sym, _∙_}
 use mathlib.Core.Bool.{Bool, true, false, not}
 use mathlib.Core.List.{List, [], _∷_, _++_, append-nil}
 use mathlib.Core.Logic.{by-cases}
-use Prim.Native.Nat.{ℕ, zero, suc, _+_, _*_, _≤_, _<_}
+use Prim.Native.Nat.{ℕ, suc, _+_, _≤_, _<_}
 use native.Mathlib.Decide.{ℕ-discrete}
 use native.Mathlib.Omega.{arith}
 use borrow.Author.Tests.{eqb-true, ne-eqb}
 use lib.Dec.{eqb}
 use lib.ListN.{length, take, drop, getD, set, length-drop}
-use lib.Seq.{paste, length-take-le, getD-set-same, getD-set-other}
-use Rattle.words.specs.Pick.{pick}
+use lib.Seq.{length-take-le, getD-set-same, getD-set-other}
+use Rattle.basis.specs.Pick.{pick}
 use Rattle.column.specs.declared.Block.{Block}
-use Rattle.column.specs.Lent.{Lent, buffers, block, blockAt}
-use Rattle.column.specs.Meaning.{bytesOf, blocksOf}
+use Rattle.column.specs.Lent.{buffers, block, blockAt}
+use Rattle.column.specs.Meaning.{blocksOf}
 use Rattle.showing.specs.Rows.{Ext, ext-last, ext-add}
 use Rattle.showing.specs.Stores.{length-blocks, blocks-set, blocks-paste, open-paste}
 use Rattle.builder.specs.declared.State.{State}
-use Rattle.builder.specs.State.{Builder, moved, builder, isOpen, allBlocks, used, recorded, blocksNow, complete, grow, lay, addRow, enter}
+use Rattle.builder.specs.State.{Builder, isOpen, allBlocks, used, recorded, blocksNow, closed, complete, sized, lay, addRow}
+use Rattle.promise.proofs.Fits.{grow}
 
 -- the bytes of the open block, and the completed blocks
 abbrev pub openOf : Builder → List ℕ
@@ -53,11 +54,11 @@ now-are b room = by (isOpen (b .state)) room
     by false h = sym (append-nil (doneOf b))
 
 pub now-complete : (b : Builder) → blocksNow (complete b) ≡ blocksNow b
-unfolding blocksNow complete recorded allBlocks
+unfolding blocksNow complete closed recorded allBlocks
 now-complete b = refl
 
 pub now-grow : (n : ℕ) (b : Builder) → blocksNow (grow n b) ≡ blocksNow b
-unfolding blocksNow grow recorded allBlocks
+unfolding blocksNow grow sized recorded allBlocks
 now-grow n b = refl
 
 pub now-row : (v : List ℕ) (valid : Bool) (b : Builder) → blocksNow (addRow v valid b) ≡ blocksNow b
@@ -77,7 +78,7 @@ open-some s h = rw (ne-eqb (s .fill) 0 (λ e. omega arith))
 
 -- completing keeps the blocks before the open one
 pub below-complete : (b : Builder) → allBlocks (b .state) ≤ length (b .lent .table) → Below b → Below (complete b)
-unfolding complete recorded allBlocks
+unfolding complete closed recorded allBlocks
 below-complete b room below = by (isOpen (b .state)) room
   where
     t : List Block
@@ -108,13 +109,16 @@ module _ (x : List ℕ) (b : Builder) (some : 0 < length x) (below : Below b) (r
   unfolding lay
   lay-room = rw (all-lay x b some) room
 
+  -- the completed blocks stay
+  pub done-lay : doneOf (lay x b) ≡ doneOf b
+  unfolding lay
+  done-lay = blocks-paste (b .lent) (b .state .blocks) (used (b .state)) x (b .lent .views) (b .lent .nulls) (omega arith) (λ k j. omega (arith, below k j)) fits
+
   pub now-lay : blocksNow (lay x b) ≡ doneOf b ++ (openOf b ++ x) ∷ []
   unfolding lay
   now-lay =
-      let kept : doneOf (lay x b) ≡ doneOf b =
-      blocks-paste (b .lent) (b .state .blocks) (used (b .state)) x (b .lent .views) (b .lent .nulls) (omega arith) (λ k j. omega (arith, below k j)) fits in
       let laid : openOf (lay x b) ≡ openOf b ++ x = open-paste (b .lent .bytes) (b .state .base) (b .state .fill) x fits in
-      now-are (lay x b) lay-room ∙ rw (open-some (lay x b .state) (omega arith), kept, laid)
+      now-are (lay x b) lay-room ∙ rw (open-some (lay x b .state) (omega arith), done-lay, laid)
 
   pub ext-lay : allBlocks (b .state) ≤ length (b .lent .table) → Ext (blocksNow b) (blocksNow (lay x b))
   ext-lay h = rw (now-are b h, now-lay) (by (isOpen (b .state)) refl)

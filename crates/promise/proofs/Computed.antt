@@ -15,19 +15,22 @@ use Rattle.column.specs.Truth.{reachOf, reachable, zeros, honest, isTrue, lowes
 use Rattle.column.specs.Laid.{rowsOf, viewsOf, bitsOf, flat, putViews, putTable}
 use Rattle.reading.specs.Reading as reading
 use Rattle.comparison.specs.Compare.{compareViews, refuseBoth, whyCompare, compareRows}
-use Rattle.builder.specs.State.{rowsRoom, allBlocks, fitsState, recorded, blocksNow, complete, fitsOpen, grow, makeRoom, lay, addRow, addRows}
-use Rattle.builder.specs.Start.{whyStart, start}
-use Rattle.builder.specs.Values.{hits, found, blockFor, whyLay, whyStore, whyValues, store, putValue, putValues}
+use Rattle.builder.specs.State.{rowsRoom, allBlocks, fitsRooms, fitsState, recorded, blocksNow, closed, complete, fitsOpen, sized, roomed, makeRoom, lay, addRow, addRows}
+use Rattle.builder.specs.Start.{whyStart, cleared, start}
+use Rattle.builder.specs.Values.{hits, foundBy, found, blockFor, whyLay, whyStore, whyRow, whyValues, store, putFound, putValue, putValues}
+use Rattle.builder.specs.Get.{whyGet, getValue}
 use Rattle.builder.specs.Finish.{whyFinish, finished}
-use Rattle.compaction.specs.Walk.{pass, passAll, anyLong, walked, blocksOut, viewsOut}
-use Rattle.compaction.specs.Compact.{whyCompact, compacted}
+use Rattle.compaction.specs.Cut.{roomFor, cutFrom, cutAll, cutLens}
+use Rattle.compaction.specs.Compact.{longOf, viewBy, whyCompact, compacted}
+use Rattle.laying.specs.Rooms.{whyRooms}
+use Rattle.laying.specs.Written.{putRows, startsFrom, total}
 
 unfoldable pub computed : ℕ
 unfolding rowLimit blockLimit byteLimit mostCompaction refuse wordAt enc pad bitAt isValid countNulls putBit putBits cmp same within fits led ledBy front
     badAfter firstBad wellFormed lengthOf bodyOf prefixOf blockOf offsetOf shortView longView makeView viewAt startSize largestSize nextSize sizeAfter
-    reachedIn fitsSize fitsGrowth lent.rowRoom lent.blockRoom lent.dataRoom lent.fits lent.inData blocksOf shown shownAt validAt reachOf reachable
+    reachedIn fitsSize fitsGrowth lent.rowRoom lent.blockRoom lent.dataRoom lent.fits lent.inData lent.tableOf blocksOf shown shownAt validAt reachOf reachable
     zeros honest isTrue lowest rowsOf viewsOf bitsOf flat putViews putTable reading.whyColumn reading.whyRun reading.whyValue reading.valueAt reading.prefixOf reading.suffixOf
-    reading.prefixAt reading.suffixAt reading.nullRun reading.bytesLen reading.totalBytesLen compareViews refuseBoth whyCompare compareRows rowsRoom allBlocks fitsState recorded blocksNow complete fitsOpen
-    grow makeRoom lay addRow addRows whyStart start hits found blockFor whyLay whyStore whyValues store putValue putValues whyFinish finished pass passAll anyLong walked
-    blocksOut viewsOut whyCompact compacted
+    reading.prefixAt reading.suffixAt reading.nullRun reading.bytesLen reading.totalBytesLen compareViews refuseBoth whyCompare compareRows rowsRoom allBlocks fitsRooms fitsState recorded blocksNow closed complete fitsOpen
+    sized roomed makeRoom lay addRow addRows whyStart cleared start whyGet getValue hits foundBy found blockFor whyLay whyStore whyRow whyValues store putFound putValue putValues whyFinish finished putRows total startsFrom roomFor cutFrom
+    cutAll cutLens longOf viewBy whyRooms whyCompact compacted
 computed = 0

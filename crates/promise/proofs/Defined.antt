@@ -6,19 +6,18 @@ use Prim.Native.Nat.{ℕ, zero, suc, _<_}
 use native.Mathlib.Omega.{arith}
 use lib.ListN.{length, getD, length-map}
 use Rattle.bounds.specs.Refusals.{isAccepted}
-use Rattle.bounds.specs.declared.Why.{Why}
-use Rattle.bounds.specs.declared.Why.the-variants.{Accepted, Refused}
 use Rattle.builder.specs.declared.Settings.{Settings}
 use Rattle.builder.specs.State.{Builder}
 use Rattle.builder.specs.Start.{start}
 use Rattle.builder.specs.Values.{whyValues, putValues}
 use Rattle.column.specs.Lent.{Lent}
-use Rattle.promise.specs.Calls.{Item, value, null, bytesOf, Call, values, appended, Ran, none, more}
+use Rattle.promise.specs.Calls.{Item, value, null, bytesOf, add·values, Entry, values, call, appended, Ran, none, more}
 use Rattle.promise.specs.Made.{Made, built}
+use Rattle.promise.proofs.Gets.{is-accepted}
 use Rattle.promise.proofs.Promised.{promised}
 use Rattle.promise.specs.Library.{defined, appendAll, accepts, lentBy, columnBy, Passes, Meets}
 
-one-each : List (List ℕ) → List Call
+one-each : List (List ℕ) → List Entry
 one-each xs = map (values 1) xs
 
 items : (xs : List (List ℕ)) → appended (one-each xs) ≡ map value xs
@@ -31,18 +30,14 @@ item-at [] i h = absurd (omega arith)
 item-at (x ∷ xs) zero h = refl
 item-at (x ∷ xs) (suc i) h = item-at xs i (omega arith)
 
-is-accepted : (w : Why) → isAccepted w ≡ true → w ≡ Accepted
-is-accepted Accepted e = refl
-is-accepted (Refused r) e = absurd (true≢false (sym e))
-
-run : (xs : List (List ℕ)) (b : Builder) → accepts defined xs b ≡ true → Ran (one-each xs) b (appendAll defined xs b)
+run : (xs : List (List ℕ)) (b : Builder) → accepts defined xs b ≡ true → Ran (map call (one-each xs)) b (appendAll defined xs b)
 unfolding appendAll accepts one-each
 run [] b e = none
 run (x ∷ xs) b e = go (isAccepted (whyValues 1 b x)) refl e (run xs (putValues 1 x b))
   where
     go : (t : Bool) → isAccepted (whyValues 1 b x) ≡ t → t && accepts defined xs (putValues 1 x b) ≡ true
-        → (accepts defined xs (putValues 1 x b) ≡ true → Ran (map (values 1) xs) (putValues 1 x b) (appendAll defined xs (putValues 1 x b)))
-        → Ran (values 1 x ∷ map (values 1) xs) b (appendAll defined xs (putValues 1 x b))
+        → (accepts defined xs (putValues 1 x b) ≡ true → Ran (map call (map (values 1) xs)) (putValues 1 x b) (appendAll defined xs (putValues 1 x b)))
+        → Ran (add·values 1 x ∷ map call (map (values 1) xs)) b (appendAll defined xs (putValues 1 x b))
     go true w e rest = more (is-accepted (whyValues 1 b x) w) (rest e)
     go false w e rest = absurd (true≢false (sym e))
 

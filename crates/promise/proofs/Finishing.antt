@@ -1,38 +1,46 @@
--- A builder that has just started shows nothing, and a finished column shows what its builder did. Assumes nothing.
-use mathlib.Core.Path.{_≡_, refl, sym, ap, _∙_, subst}
-use mathlib.Core.Bool.{Bool, true, false, not, _||_, _&&_, true≢false}
-use mathlib.Core.List.{List, [], _∷_, _++_, map}
-use Prim.Native.Nat.{ℕ, zero, suc, _+_, _*_, _≤_, _<_}
-use native.Mathlib.Nat.{zero-add}
+-- A builder that has just started or finished shows nothing, and a finished column shows what its builder did and passes the check. Assumes nothing.
+use mathlib.Core.Path.{_≡_, refl, sym, ap, _∙_}
+use mathlib.Core.Bool.{Bool, true, false, not, _||_, true≢false}
+use mathlib.Core.List.{List, [], _∷_, map}
+use Prim.Native.Nat.{ℕ, zero, suc, _+_, _≤_, _<_}
+use native.Mathlib.Nat.{zero-add, le-of-suc-le-suc, not-suc-le-zero}
 use native.Mathlib.Omega.{arith}
-use borrow.Author.Tests.{not-false}
-use lib.ListN.{length, getD, replicate, length-map}
+use borrow.Author.Tests.{not-false, le-leb}
+use lib.ListN.{length, getD, length-map, length-replicate}
 use Rattle.null_bits.specs.Bits as bits
 use Rattle.null_bits.specs.Bits.{isValid}
+use Rattle.bounds.specs.Refusals.{refuse}
+use Rattle.bounds.specs.declared.Refusal.the-variants.{Range}
 use Rattle.bounds.specs.declared.Why.the-variants.{Accepted}
 use Rattle.growth.specs.Growing.{fitsGrowth}
 use Rattle.growth.specs.GrowthLaws.{start-fits}
 use Rattle.views.specs.View.{viewAt}
+use Rattle.column.specs.declared.Kind.{Kind}
 use Rattle.column.specs.declared.Column.{Column}
-use Rattle.column.specs.Lent.{Lent, rowRoom, blockRoom, dataRoom}
+use Rattle.column.specs.Lent.{Lent, rowRoom, blockRoom, allInData, inData}
 use Rattle.column.specs.Meaning.{rowView, blocksOf, validAt}
+use Rattle.column.specs.Truth.{ofKind, trueAt}
+use Rattle.column.specs.LowestLaws.{lowest-none}
 use Rattle.column.specs.Laid.{rowsOf, viewsOf, bitsOf}
 use Rattle.showing.specs.Rows.{Rows, rnil}
 use Rattle.showing.specs.Stores.{rows-same, rows-list}
-use Rattle.showing.specs.Truths.{AllIn}
+use Rattle.showing.specs.Truths.{AllIn, row-true}
 use Rattle.showing.specs.Rooms.{passed, fitted, both}
-use Rattle.showing.specs.Shows.{Shows}
+use Rattle.showing.specs.Shows.{Shows, shows-row, shows-rows}
+use Rattle.validity.specs.Check.{whyInvalid}
+use Rattle.builder.specs.declared.Merging.{Merging}
+use Rattle.builder.specs.declared.Merging.the-variants.{Off, On, UpTo}
 use Rattle.builder.specs.declared.Sizes.{Sizes}
 use Rattle.builder.specs.declared.Sizes.the-variants.{Doubled, Same}
 use Rattle.builder.specs.declared.Settings.{Settings}
-use Rattle.builder.specs.State.{Builder, rowsRoom, isOpen, allBlocks, used, recorded, blocksNow, complete}
-use Rattle.builder.specs.Start.{lawfulSizes, lawfulMerging, growthOf, whyStart, start}
-use Rattle.builder.specs.Finish.{columnOf, finished}
-use Rattle.promise.specs.Calls.{Item, value, null, bytesOf, isValue}
-use Rattle.promise.proofs.Fits.{Fits, sizes-complete, block-table}
-use Rattle.promise.proofs.Blocks.{below-complete}
-use Rattle.promise.proofs.Steps.{anyNull, Inv}
-use Rattle.promise.proofs.Appends.{rows-are}
+use Rattle.builder.specs.State.{Builder, placesRoom, rowsRoom, allBlocks, recorded, blocksNow, closed, complete}
+use Rattle.builder.specs.Start.{lawfulSizes, lawfulMerging, growthOf, whyStart, cleared, start}
+use Rattle.builder.specs.Get.{columnOf}
+use Rattle.builder.specs.Finish.{finished}
+use Rattle.promise.specs.Calls.{Cell, bytesIn, validIn}
+use Rattle.promise.proofs.Fits.{sizes-complete}
+use Rattle.promise.proofs.Steps.{anyNull, OfKind, knil, kcons, Inv}
+use Rattle.promise.proofs.Gets.{rows-are, all-in}
 
 -- ---- start
 
@@ -49,6 +57,7 @@ inv-start t l places w =
       shows = rnil;
       bits = refl;
       nulled = refl;
+      kinds = knil;
       below = λ k h. absurd (omega arith);
       fits = record { rows = omega arith; blocks = omega arith; bytes = omega arith; growth = lawful-fits (t .sizes) (lawful .0) };
       room = refl;
@@ -56,32 +65,59 @@ inv-start t l places w =
 
 -- ---- finish
 
-all-valid : (xs : List Item) → anyNull xs ≡ false → (r : ℕ) → true ≡ getD (map isValue xs) r true
+cleared-room : (m : Merging) (places : List ℕ) → placesRoom m (length (cleared m places)) ≡ placesRoom m (length places)
+unfolding cleared
+cleared-room Off places = refl
+cleared-room On places = length-replicate (length places) 0
+cleared-room (UpTo n) places = length-replicate (length places) 0
+
+same-room : (b : Builder) → rowsRoom (finished b) ≡ rowsRoom b
+unfolding rowsRoom finished recorded rowRoom
+same-room b = rw (cleared-room (b .state .merging) (b .places))
+
+-- nothing is in a builder that was finished
+pub inv-finish : {m : ℕ} (b : Builder) (xs : List Cell) → Inv m b xs → Inv m (finished b) []
+unfolding finished rowsOf anyNull allBlocks
+inv-finish b xs i =
+    record {
+      shows = rnil;
+      bits = refl;
+      nulled = refl;
+      kinds = knil;
+      below = λ k h. absurd (omega arith);
+      fits = record { rows = omega arith; blocks = omega arith; bytes = omega arith; growth = i .fits .growth };
+      room = same-room b ∙ i .room;
+    }
+
+all-valid : (xs : List Cell) → anyNull xs ≡ false → (r : ℕ) → true ≡ getD (map validIn xs) r true
 unfolding anyNull
 all-valid [] e r = refl
-all-valid (value x ∷ xs) e zero = refl
-all-valid (value x ∷ xs) e (suc r) = all-valid xs e r
-all-valid (null ∷ xs) e r = absurd (true≢false e)
+all-valid (x ∷ xs) e r = by (x .valid) e r (all-valid xs)
+  where
+    by : (t : Bool) → not t || anyNull xs ≡ false → (r : ℕ) → (anyNull xs ≡ false → (r : ℕ) → true ≡ getD (map validIn xs) r true) → true ≡ getD (t ∷ map validIn xs) r true
+    by true e zero rest = refl
+    by true e (suc r) rest = rest e r
+    by false e r rest = absurd (true≢false e)
 
 -- without a null there is no map, and every row is valid
-bits-by : (nulls : List ℕ) (n : ℕ) (xs : List Item) → n ≡ length xs → rowsOf (isValid nulls) n ≡ map isValue xs → (t : Bool) → t ≡ anyNull xs
-    → rowsOf (bits.validAt nulls t) n ≡ map isValue xs
+bits-by : (nulls : List ℕ) (n : ℕ) (xs : List Cell) → n ≡ length xs → rowsOf (isValid nulls) n ≡ map validIn xs → (t : Bool) → t ≡ anyNull xs
+    → rowsOf (bits.validAt nulls t) n ≡ map validIn xs
 unfolding bits.validAt
 bits-by nulls n xs k e true h = e
 bits-by nulls n xs k e false h =
-    rw (k, ← length-map xs isValue) (rows-list (λ (r : ℕ). true) (map isValue xs) true (λ r j. all-valid xs (sym h) r))
+    rw (k, ← length-map xs validIn) (rows-list (λ (r : ℕ). true) (map validIn xs) true (λ r j. all-valid xs (sym h) r))
 
 less-room : (t : Bool) (l : Lent) → rowRoom true l ≤ rowRoom t l
 unfolding rowRoom
 less-room true l = omega arith
 less-room false l = omega arith
 
-module _ {m : ℕ} (b : Builder) (xs : List Item) (i : Inv m b xs) where
+module _ {m : ℕ} (b : Builder) (xs : List Cell) (i : Inv m b xs) where
   same-views : viewsOf (finished b .lent) (columnOf b) ≡ rowsOf (viewAt (b .lent .views)) (b .state .rows)
   unfolding viewsOf finished recorded
   same-views = rows-same (rowView (finished b .lent) (columnOf b)) (viewAt (b .lent .views)) (b .state .rows) (λ r h. ap (viewAt (b .lent .views)) (zero-add r))
 
-  same-bits : bitsOf (finished b .lent) (columnOf b) ≡ map isValue xs
+  same-bits : bitsOf (finished b .lent) (columnOf b) ≡ map validIn xs
   unfolding bitsOf validAt finished recorded
   same-bits =
       rows-same (validAt (finished b .lent) (columnOf b)) (bits.validAt (b .lent .nulls) (b .state .nulled)) (b .state .rows)
@@ -93,17 +129,36 @@ module _ {m : ℕ} (b : Builder) (xs : List Item) (i : Inv m b xs) where
   rows-fit = omega (arith, i .fits .rows, less-room (b .state .nulled) (b .lent))
 
   blocks-fit : allBlocks (b .state) ≤ blockRoom (finished b .lent)
-  unfolding finished complete
+  unfolding finished complete closed
   blocks-fit = omega (arith, i .fits .blocks, sizes-complete b .blocks)
 
-  all-in : AllIn (finished b .lent) (allBlocks (b .state))
-  unfolding finished complete
-  all-in k h = omega (arith, below-complete b (omega (arith, i .fits .blocks, block-table (b .lent))) (i .below) k h, i .fits .bytes, sizes-complete b .bytes)
+  inside : AllIn (finished b .lent) (allBlocks (b .state))
+  unfolding finished
+  inside = all-in b xs i
 
-  rows-shown : Rows (blocksOf (finished b .lent) (allBlocks (b .state))) (viewsOf (finished b .lent) (columnOf b)) (map bytesOf xs)
+  rows-shown : Rows (blocksOf (finished b .lent) (allBlocks (b .state))) (viewsOf (finished b .lent) (columnOf b)) (map bytesIn xs)
   unfolding finished blocksNow
   rows-shown = rw same-views (i .shows)
 
-  pub shows-finished : Shows (finished b .lent) (columnOf b) (map bytesOf xs) (map isValue xs)
+  pub shows-finished : Shows (finished b .lent) (columnOf b) (map bytesIn xs) (map validIn xs)
   shows-finished =
-      record { rows = rows-shown; bits = same-bits; fitted = fitted (finished b .lent) (columnOf b) (record { rows = rows-fit; blocks = blocks-fit }); inside = all-in }
+      record { rows = rows-shown; bits = same-bits; fitted = fitted (finished b .lent) (columnOf b) (record { rows = rows-fit; blocks = blocks-fit }); inside = inside }
+
+-- ---- the check
+
+all-inside : (l : Lent) (n : ℕ) → AllIn l n → allInData l n ≡ true
+unfolding allInData inData
+all-inside l zero a = refl
+all-inside l (suc n) a = rw (all-inside l n (λ k h. a k (omega arith)), le-leb _ _ (a n (omega arith)))
+
+kind-at : (k : Kind) (xs : List Cell) → OfKind k xs → (r : ℕ) → r < length xs → ofKind k (getD (map bytesIn xs) r []) ≡ true
+kind-at k [] knil r h = absurd (not-suc-le-zero h)
+kind-at k (x ∷ xs) (kcons e f) zero h = e
+kind-at k (x ∷ xs) (kcons e f) (suc r) h = kind-at k xs f r (le-of-suc-le-suc h)
+
+pub check-shown : (xs : List Cell) {l : Lent} {c : Column} {bs : List Bool} → Shows l c (map bytesIn xs) bs → OfKind (c .kind) xs → whyInvalid l c ≡ Accepted
+unfolding whyInvalid refuse
+check-shown xs {l} {c} s o =
+    let good : (r : ℕ) → r < c .rows → trueAt (c .kind) l c r ≡ true =
+    λ r h. row-true l (c .kind) (c .blocks) (s .inside) (shows-row s r h) (kind-at (c .kind) xs o r (omega (arith, shows-rows s, length-map xs bytesIn))) in
+    rw (s .fitted, ← lowest-none (trueAt (c .kind) l c) (c .rows) (refuse Range (not (allInData l (c .blocks))) Accepted) good, all-inside l (c .blocks) (s .inside))

@@ -1,25 +1,25 @@
 -- What is known of a builder whose state fits, and that each small step leaves the rooms as they were. Assumes nothing.
-use mathlib.Core.Path.{_≡_, refl, sym, ap, _∙_}
-use mathlib.Core.Bool.{Bool, true, false, not, _&&_}
+use mathlib.Core.Path.{_≡_, refl, _∙_}
+use mathlib.Core.Bool.{Bool, true, false, _&&_}
 use mathlib.Core.List.{List}
-use Prim.Native.Nat.{ℕ, zero, suc, _+_, _*_, _/_, _≤_, _<_, min}
+use Prim.Native.Nat.{ℕ, suc, _+_, _*_, _≤_, _<_}
 use native.Mathlib.Omega.{arith}
 use borrow.Author.Tests.{leb-true, le-leb}
 use lib.Dec.{leb}
 use lib.ListN.{length, set, length-set}
-use lib.Seq.{paste, length-paste}
-use Rattle.words.specs.Pick.{pick}
-use Rattle.growth.specs.Growing.{fitsGrowth, grown}
-use Rattle.growth.specs.GrowthLaws.{grown-fits}
-use Rattle.null_bits.specs.Bits.{putBit}
+use lib.Seq.{length-paste}
+use Rattle.basis.specs.Pick.{pick}
+use Rattle.growth.specs.Growing.{fitsGrowth}
 use Rattle.null_bits.specs.PutLaws as bits
 use Rattle.column.specs.declared.Block.{Block}
 use Rattle.column.specs.Lent.{Lent, block, rowRoom, blockRoom, dataRoom}
 use Rattle.showing.specs.Rooms.{both}
 use Rattle.builder.specs.declared.State.{State}
-use Rattle.builder.specs.declared.Merging.{Merging}
-use Rattle.builder.specs.declared.Merging.the-variants.{Off, On, UpTo}
-use Rattle.builder.specs.State.{Builder, placesRoom, rowsRoom, isOpen, allBlocks, used, fitsState, recorded, complete, grow, lay, addRow, enter}
+use Rattle.merging.specs.declared.Found.{Found}
+use Rattle.merging.specs.declared.Found.the-variants.{Row, Free, Full}
+use Rattle.merging.specs.Table.{entered}
+use Rattle.builder.specs.State.{Builder, builder, rowsRoom, isOpen, allBlocks, used, fitsRooms, fitsState, recorded, closed, complete, fitsOpen, sized, roomed, makeRoom, lay, addRow}
+use Rattle.builder.specs.Values.{enter}
 
 both-and : (a b : Bool) → a ≡ true → b ≡ true → a && b ≡ true
 both-and a b p q = rw (p, q)
@@ -32,7 +32,7 @@ pub record Fits (b : Builder) : Type 0 where
   pub growth : fitsGrowth (b .state .growth) ≡ true
 
 pub fits-are : (b : Builder) → fitsState b ≡ true → Fits b
-unfolding fitsState
+unfolding fitsState fitsRooms
 fits-are b e =
     let p = both (leb (b .state .rows) (rowsRoom b)) _ e in
     let q = both (leb (allBlocks (b .state)) (blockRoom (b .lent))) _ (p .1) in
@@ -40,7 +40,7 @@ fits-are b e =
     record { rows = leb-true _ _ (p .0); blocks = leb-true _ _ (q .0); bytes = leb-true _ _ (r .0); growth = r .1 }
 
 pub are-fits : (b : Builder) → Fits b → fitsState b ≡ true
-unfolding fitsState
+unfolding fitsState fitsRooms
 are-fits b f =
     both-and (leb (b .state .rows) (rowsRoom b)) _ (le-leb _ _ (f .rows))
     (both-and (leb (allBlocks (b .state)) (blockRoom (b .lent))) _ (le-leb _ _ (f .blocks))
@@ -81,11 +81,25 @@ unfolding recorded
 length-recorded s l = length-if (isOpen s) (l .table) (s .blocks) (block (s .base) (s .fill))
 
 pub sizes-complete : (b : Builder) → Sizes b (complete b)
-unfolding complete rowsRoom rowRoom blockRoom dataRoom recorded
+unfolding complete closed rowsRoom rowRoom blockRoom dataRoom recorded
 sizes-complete b = record { rows = refl; blocks = rw (length-recorded (b .state) (b .lent)); bytes = refl }
 
+-- a size is taken
+unfoldable pub grow : ℕ → Builder → Builder
+grow n b = builder (sized n (b .state)) (b .lent) (b .places)
+
+-- room is what there is, or a new block after the open one is completed
+pub room-is : (n : ℕ) (b : Builder) → makeRoom n b ≡ pick (fitsOpen (b .state) n) b (grow n (complete b))
+unfolding makeRoom roomed grow complete
+room-is n b = by (fitsOpen (b .state) n)
+  where
+    by : (t : Bool) → builder (pick t (b .state) (sized n (closed (b .state)))) (pick t (b .lent) (recorded (b .state) (b .lent))) (b .places)
+        ≡ pick t b (builder (sized n (closed (b .state))) (recorded (b .state) (b .lent)) (b .places))
+    by true = refl
+    by false = refl
+
 pub sizes-grow : (n : ℕ) (b : Builder) → Sizes b (grow n b)
-unfolding grow rowsRoom
+unfolding grow rowsRoom sized
 sizes-grow n b = record { rows = refl; blocks = refl; bytes = refl }
 
 pub sizes-lay : (x : List ℕ) (b : Builder) → used (b .state) + length x ≤ length (b .lent .bytes) → Sizes b (lay x b)
@@ -102,11 +116,11 @@ sizes-row v valid b e h =
       bytes = refl;
     }
 
-pub rooms-enter : (p : ℕ) (b : Builder) → rowsRoom (enter p b) ≡ rowsRoom b
+length-entered : (f : Found) (e : ℕ) (t : List ℕ) → length (entered f e t) ≡ length t
+length-entered (Row r) e t = refl
+length-entered (Free p) e t = length-set t p e
+length-entered Full e t = refl
+
+pub rooms-enter : (f : Found) (b : Builder) → rowsRoom (enter f b) ≡ rowsRoom b
 unfolding rowsRoom
-rooms-enter p b = by (b .state .merging)
-  where
-    by : (m : Merging) → min (rowRoom true (b .lent)) (placesRoom m (set (b .places) p (suc (b .state .rows)))) ≡ min (rowRoom true (b .lent)) (placesRoom m (b .places))
-    by Off = refl
-    by On = rw length-set
-    by (UpTo n) = rw length-set
+rooms-enter f b = rw (length-entered f (suc (b .state .rows)) (b .places))

@@ -1,98 +1,78 @@
--- The third promise holds. Assumes nothing.
-use mathlib.Core.Path.{_≡_, refl, sym, ap, _∙_, subst}
+-- The third promise holds: it is what is kept, of value and null calls alone. Assumes nothing.
+use mathlib.Core.Path.{_≡_, refl, sym, ap, _∙_}
 use mathlib.Core.Bool.{true}
-use mathlib.Core.List.{List, [], _∷_, map}
-use Prim.Native.Nat.{ℕ, zero, suc, _+_, _<_}
-use native.Mathlib.Nat.{le-of-suc-le-suc, not-suc-le-zero}
-use native.Mathlib.Omega.{arith}
-use borrow.Author.Tests.{lt-leb, le-ltb}
-use lib.ListN.{length, getD, length-map, List·getD-map}
-use Rattle.bounds.specs.Refusals.{refuse}
-use Rattle.bounds.specs.declared.Why.the-variants.{Accepted}
-use Rattle.order.specs.Order.{cmp}
+use mathlib.Core.List.{List, [], _∷_, _++_, map, map-append, append-nil, append-assoc}
+use Prim.Native.Nat.{ℕ, zero, suc, _<_}
+use lib.ListN.{length, getD, replicate, length-map, List·getD-map}
 use Rattle.column.specs.declared.Column.{Column}
 use Rattle.column.specs.Lent.{Lent}
-use Rattle.showing.specs.Row.{Row}
-use Rattle.showing.specs.Padded.{rows-compare}
-use Rattle.showing.specs.Shows.{Shows, shows-rows, shows-row, shows-value, shows-reach, shows-bit}
-use Rattle.reading.specs.Reading.{whyRun, whyRow, whyValue, valueAt, bitOf, bitWhen}
-use Rattle.comparison.specs.Compare.{refuseBoth, whyCompare, compareViews, compareRows, orderOf}
-use Rattle.comparison.specs.declared.Compared.the-variants as compared
-use Rattle.builder.specs.Finish.{columnOf, finished}
-use Rattle.compaction.proofs.Compacted.{compacted-shows}
+use Rattle.builder.specs.State.{Builder}
 use Rattle.compaction.proofs.Bound.{compacted-bounded}
-use Rattle.promise.specs.Calls.{Item, value, null, bytesOf, isValue, appended}
+use Rattle.promise.specs.Calls.{Cell, cell, no·value, rowsAfter, Item, value, null, bytesOf, isValue, cellFor, Entry, values, nulls, call, appended}
+use Rattle.promise.specs.Kept.{Filed, done}
+use Rattle.promise.specs.Kept as files
 use Rattle.promise.specs.Made.{Made, built, again, Faithful, Ordered, Promise}
-use Rattle.promise.proofs.Appends.{inv-ran}
-use Rattle.promise.proofs.Finishing.{inv-start, shows-finished}
+use Rattle.promise.proofs.Kept.{kept}
 
--- every column that is made shows the items
-pub made-shows : (xs : List Item) {l : Lent} {c : Column} → Made xs l c → Shows l c (map bytesOf xs) (map isValue xs)
-made-shows xs (built t l places cs b w e r f) =
-    subst (λ (ys : List Item). Shows (finished b .lent) (columnOf b) (map bytesOf ys) (map isValue ys)) e
-    (shows-finished b (appended cs) (inv-ran [] r (inv-start t l places w)))
-made-shows xs (again most out {l} {c} d w) = compacted-shows most l c out (made-shows xs d) w
+-- value and null calls put what they append
+copies-for : (n : ℕ) (x : List ℕ) → replicate n (cell x true) ≡ map cellFor (replicate n (value x))
+copies-for zero x = refl
+copies-for (suc n) x = ap (λ (r : List Cell). cell x true ∷ r) (copies-for n x)
 
-item-bit : (xs : List Item) (i : ℕ) → i < length xs → getD (map isValue xs) i true ≡ isValue (getD xs i null)
-item-bit [] i h = absurd (not-suc-le-zero h)
-item-bit (x ∷ xs) zero h = refl
-item-bit (x ∷ xs) (suc i) h = item-bit xs i (le-of-suc-le-suc h)
+rows-for : (es : List Entry) (b : Builder) (xs : List Cell) → rowsAfter (map call es) b xs ≡ xs ++ map cellFor (appended es)
+unfolding rowsAfter appended
+rows-for [] b xs = sym (append-nil xs)
+rows-for (values n x ∷ es) b xs =
+    rows-for es _ (xs ++ replicate n (cell x true)) ∙ append-assoc xs (replicate n (cell x true)) (map cellFor (appended es))
+    ∙ ap (λ (r : List Cell). xs ++ r) (rw (copies-for n x) (sym (map-append cellFor (replicate n (value x)) (appended es))))
+rows-for (nulls ∷ es) b xs = rows-for es _ (xs ++ no·value ∷ []) ∙ append-assoc xs (no·value ∷ []) (map cellFor (appended es))
 
-module _ (xs : List Item) {l : Lent} {c : Column} (s : Shows l c (map bytesOf xs) (map isValue xs)) where
-  pub rows-made : c .rows ≡ length xs
-  rows-made = shows-rows s ∙ length-map xs bytesOf
+filed : (xs : List Item) {l : Lent} {c : Column} → Made xs l c → Filed (map cellFor xs) l c
+filed xs (built t l places cs b w e r f) = done t l places (map call cs) b w r (rows-for cs _ [] ∙ ap (map cellFor) e)
+filed xs (again most out d w) = files.again most out (filed xs d) w
 
-  item-bytes : (i : ℕ) → getD (map bytesOf xs) i [] ≡ bytesOf (getD xs i null)
-  item-bytes i = List·getD-map bytesOf xs i null
+for-bytes : (x : Item) → cellFor x .bytes ≡ bytesOf x
+for-bytes (value x) = refl
+for-bytes null = refl
 
-  pub why-made : (i : ℕ) → i < length xs → whyValue l c i ≡ Accepted
-  unfolding whyValue refuse
-  why-made i h = rw (s .fitted, lt-leb (c .rows) i (omega (arith, rows-made)), shows-reach s i (omega (arith, rows-made)))
+for-bit : (x : Item) → cellFor x .valid ≡ isValue x
+for-bit (value x) = refl
+for-bit null = refl
 
-  pub value-made : (i : ℕ) → i < length xs → valueAt l c i ≡ bytesOf (getD xs i null)
-  unfolding valueAt
-  value-made i h = rw (why-made i h) (shows-value s i (omega (arith, rows-made)) ∙ item-bytes i)
+module _ (xs : List Item) where
+  item-at : (i : ℕ) → getD (map cellFor xs) i no·value ≡ cellFor (getD xs i null)
+  item-at i = List·getD-map cellFor xs i null
 
-  pub bit-made : (i : ℕ) → i < length xs → bitOf l c i ≡ bitWhen Accepted (isValue (getD xs i null))
-  unfolding bitOf whyRow whyRun refuse
-  bit-made i h =
-      rw (s .fitted, le-ltb (c .rows) (i + 1) (omega (arith, rows-made)), shows-bit s i (omega (arith, rows-made)), item-bit xs i h)
+  item-bytes : (i : ℕ) → getD (map cellFor xs) i no·value .bytes ≡ bytesOf (getD xs i null)
+  item-bytes i = rw (item-at i) (for-bytes (getD xs i null))
 
-  pub faithful : Faithful xs l c
-  faithful = record { rows = rows-made; accepts = why-made; values = value-made; bits = bit-made }
+  item-bit : (i : ℕ) → getD (map cellFor xs) i no·value .valid ≡ isValue (getD xs i null)
+  item-bit i = rw (item-at i) (for-bit (getD xs i null))
 
--- rows of two columns by their views
-compare-shown : {bs : List (List ℕ)} {v x : List ℕ} {cs : List (List ℕ)} {w y : List ℕ} → Row bs v x → Row cs w y → compareViews bs v cs w ≡ cmp x y
-unfolding compareViews
-compare-shown s t = rows-compare s t
+  there : (i : ℕ) → i < length xs → i < length (map cellFor xs)
+  there i h = rw length-map h
 
-module _ (xs : List Item) {l : Lent} {c : Column} {m : Lent} {d : Column}
-    (s : Shows l c (map bytesOf xs) (map isValue xs)) (t : Shows m d (map bytesOf xs) (map isValue xs)) where
-  compare-made : (i j : ℕ) → i < length xs → j < length xs → compareRows l c i m d j ≡ compared.Is (orderOf (cmp (bytesOf (getD xs i null)) (bytesOf (getD xs j null))))
-  unfolding compareRows whyCompare refuseBoth
-  compare-made i j h k =
-      let p : i < c .rows = omega (arith, rows-made xs s) in
-      let q : j < d .rows = omega (arith, rows-made xs t) in
-      rw (
-        s .fitted,
-        t .fitted,
-        lt-leb (c .rows) i p,
-        lt-leb (d .rows) j q,
-        shows-reach s i p,
-        shows-reach t j q,
-        compare-shown (shows-row s i p) (shows-row t j q),
-        item-bytes xs s i,
-        item-bytes xs t j,
-      )
+  faithful : {l : Lent} {c : Column} → Made xs l c → Faithful xs l c
+  faithful d =
+      let s = kept .shows (map cellFor xs) (filed xs d) in
+      record {
+        rows = s .rows ∙ length-map xs cellFor;
+        accepts = λ i h. s .accepts i (there i h);
+        values = λ i h. s .bytes i (there i h) ∙ item-bytes i;
+        bits = λ i h. s .bits i (there i h) ∙ rw (item-bit i);
+      }
 
-  pub ordered : Ordered xs l c m d
-  ordered = record { order = compare-made }
+  ordered : {l : Lent} {c : Column} {m : Lent} {d : Column} → Made xs l c → Made xs m d → Ordered xs l c m d
+  ordered p q =
+      record {
+        order = λ i j h k. rw (← item-bytes i, ← item-bytes j) (kept .compares (map cellFor xs) (map cellFor xs) (filed xs p) (filed xs q) i j (there i h) (there j k));
+      }
 
 -- any list of values and nulls
 pub promised : (xs : List Item) → Promise xs
 promised xs =
     record {
-      shows = λ d. faithful xs (made-shows xs d);
-      compares = λ d e. ordered xs (made-shows xs d) (made-shows xs e);
+      shows = λ d. faithful xs d;
+      compares = λ d e. ordered xs d e;
       bounds = λ most out {l} {c} d w. compacted-bounded most l c out w;
     }

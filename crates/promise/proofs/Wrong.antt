@@ -5,7 +5,7 @@ use mathlib.Core.List.{List, [], _∷_}
 use Prim.Native.Nat.{ℕ}
 use native.Mathlib.Omega.{arith}
 use lib.Dec.{eqb, lit<}
-use Rattle.words.specs.Pick.{pick}
+use Rattle.basis.specs.Pick.{pick}
 use Rattle.bounds.specs.declared.Refusal.the-variants.{Fit}
 use Rattle.bounds.specs.declared.Why.the-variants.{Accepted, Refused}
 use Rattle.order.specs.declared.Order.the-variants.{Less, Equal}
@@ -18,7 +18,7 @@ use Rattle.comparison.specs.declared.Compared.the-variants as compared
 use Rattle.builder.specs.declared.Sizes.the-variants.{Doubled}
 use Rattle.builder.specs.State.{Builder, builder, addRow}
 use Rattle.builder.specs.Values.{whyValues, putValues}
-use Rattle.builder.specs.Finish.{columnOf}
+use Rattle.builder.specs.Get.{columnOf}
 use Rattle.promise.specs.Bench.{mar, may, zeroed, plain, fresh}
 use Rattle.promise.specs.Library.{Library, library, appendAll, accepts, Meets}
 use Rattle.promise.proofs.Computed.{computed}

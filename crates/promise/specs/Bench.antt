@@ -1,11 +1,12 @@
 -- The ten worked examples, as one statement over the definitions of the calls. Each builder and each compaction has small buffers of zeros of its own.
 -- Assumes nothing.
 use mathlib.Core.Path.{_≡_}
-use mathlib.Core.Bool.{true, false}
+use mathlib.Core.Bool.{Bool, true, false, _&&_}
 use mathlib.Core.List.{List, [], _∷_, map}
 use Prim.Native.Nat.{ℕ}
 use lib.ListN.{replicate}
-use Rattle.bounds.specs.Refusals.{ifAccepted}
+use Rattle.basis.specs.Pick.{pick}
+use Rattle.bounds.specs.Refusals.{ifAccepted, isAccepted}
 use Rattle.utf8.specs.Table.{wellFormed}
 use Rattle.views.specs.View.{blockOf, makeView}
 use Rattle.order.specs.declared.Order.the-variants.{Less}
@@ -21,10 +22,11 @@ use Rattle.builder.specs.declared.Settings.{Settings}
 use Rattle.builder.specs.declared.Sizes.{Sizes}
 use Rattle.builder.specs.declared.Sizes.the-variants.{Doubled, Same}
 use Rattle.builder.specs.declared.Merging.the-variants.{Off}
-use Rattle.builder.specs.State.{Builder, outcome}
+use Rattle.builder.specs.State.{Builder}
 use Rattle.builder.specs.Start.{start}
 use Rattle.builder.specs.Values.{whyValues, putValues}
-use Rattle.builder.specs.Finish.{columnOf, finished}
+use Rattle.builder.specs.Get.{columnOf}
+use Rattle.builder.specs.Finish.{whyFinish, finished}
 use Rattle.compaction.specs.Compact.{whyCompact, compacted, compactColumn}
 
 -- RO-8040-03MAR, RO-8040-03MAY, RO-8040-0303
@@ -47,26 +49,35 @@ plain sizes = record { kind = Binary; sizes = sizes; merging = Off }
 abbrev pub fresh : Sizes → Builder
 fresh sizes = start (plain sizes) zeroed []
 
--- the value calls, one after the other; one that is refused leaves the builder as it was
+-- the value calls, one after the other, and whether they and the finish are accepted
 unfoldable pub call·each : List (List ℕ) → Builder → Builder
 call·each [] b = b
-call·each (x ∷ xs) b = call·each xs (outcome (whyValues 1 b x) (putValues 1 x) b)
+call·each (x ∷ xs) b = call·each xs (putValues 1 x b)
+
+unfoldable pub taken·each : List (List ℕ) → Builder → Bool
+taken·each [] b = isAccepted (whyFinish b)
+taken·each (x ∷ xs) b = isAccepted (whyValues 1 b x) && taken·each xs (putValues 1 x b)
 
 -- a finished column and its buffers
 pub record Finished : Type 0 where
   pub lent : Lent
   pub column : Column
 
+-- no rows and no blocks
+abbrev pub nothing : Finished
+nothing = record { lent = zeroed; column = record { first = 0; rows = 0; blocks = 0; kind = Binary; mapped = false } }
+
+-- built of values; nothing where one is refused
 unfoldable pub built : Sizes → List (List ℕ) → Finished
 built sizes xs =
     let b = call·each xs (fresh sizes) in
-    record { lent = finished b .lent; column = columnOf b }
+    pick (taken·each xs (fresh sizes)) (record { lent = finished b .lent; column = columnOf b }) nothing
 
--- compacted at a maximum; as it was where that is refused
+-- compacted at a maximum; nothing where that is refused
 unfoldable pub compact : ℕ → Finished → Finished
 compact most f =
     ifAccepted (whyCompact most (f .lent) (f .column) zeroed)
-    (record { lent = compacted most (f .lent) (f .column) zeroed; column = compactColumn most (f .lent) (f .column) }) f
+    (record { lent = compacted most (f .lent) (f .column) zeroed; column = compactColumn most (f .lent) (f .column) }) nothing
 
 abbrev pub viewIn : Finished → ℕ → List ℕ
 viewIn f r = rowView (f .lent) (f .column) r

@@ -1,4 +1,4 @@
--- A list of values and nulls, the calls that append it, and a run of calls none of which was refused. Assumes nothing.
+-- The calls of a builder, a run of calls none of which was refused, and what was put in each row. Assumes nothing.
 use mathlib.Core.Path.{_≡_}
 use mathlib.Core.Bool.{Bool, true, false}
 use mathlib.Core.List.{List, [], _∷_, _++_}
@@ -6,8 +6,100 @@ use Prim.Native.Nat.{ℕ}
 use lib.ListN.{replicate}
 use Rattle.bounds.specs.declared.Why.{Why}
 use Rattle.bounds.specs.declared.Why.the-variants.{Accepted}
+use Rattle.column.specs.declared.Column.{Column}
+use Rattle.column.specs.Lent.{Lent}
+use Rattle.column.specs.Meaning.{shownAt, validAt}
+use Rattle.column.specs.Laid.{rowsOf}
 use Rattle.builder.specs.State.{Builder}
 use Rattle.builder.specs.Values.{whyValues, putValues, whyNull, putNull}
+use Rattle.builder.specs.Others.{whyBlock, putBlock, viewed, whyView, putView, whyColumn, putColumn}
+use Rattle.builder.specs.Finish.{whyFinish, copied, finished}
+
+-- every call that changes a builder; a value once is a value one time, a column comes with its own buffers
+pub data Call : Type 0 where
+  add·values : ℕ → List ℕ → Call
+  add·null : Call
+  add·block : List ℕ → Call
+  -- n bytes at an offset of completed block k
+  add·view : ℕ → ℕ → ℕ → Call
+  add·column : Lent → Column → Call
+  finish·copy : Call
+  finish : Call
+
+abbrev pub why : Call → Builder → Why
+why (add·values n x) b = whyValues n b x
+why add·null b = whyNull b
+why (add·block x) b = whyBlock b x
+why (add·view k offset n) b = whyView b k offset n
+why (add·column l c) b = whyColumn l c b
+why finish·copy b = whyFinish b
+why finish b = whyFinish b
+
+abbrev pub put : Call → Builder → Builder
+put (add·values n x) b = putValues n x b
+put add·null b = putNull b
+put (add·block x) b = putBlock x b
+put (add·view k offset n) b = putView k offset n b
+put (add·column l c) b = putColumn l c b
+put finish·copy b = copied b
+put finish b = finished b
+
+-- each call takes the state and buffers as the call before left them, and none is refused
+pub data Ran : List Call → Builder → Builder → Type 0 where
+  none : {b : Builder} → Ran [] b b
+  more : {c : Call} {cs : List Call} {b e : Builder} → why c b ≡ Accepted → Ran cs (put c b) e → Ran (c ∷ cs) b e
+
+-- what is put in a row: its bytes, and its bit, which a null has not
+pub record Cell : Type 0 where
+  pub bytes : List ℕ
+  pub valid : Bool
+
+abbrev pub cell : List ℕ → Bool → Cell
+cell x valid = record { bytes = x; valid = valid }
+
+abbrev pub bytesIn : Cell → List ℕ
+bytesIn x = x .bytes
+
+abbrev pub validIn : Cell → Bool
+validIn x = x .valid
+
+-- a null shows nothing
+abbrev pub no·value : Cell
+no·value = cell [] false
+
+-- what row r of a column shows there, with its bit
+abbrev pub cellOf : Lent → Column → ℕ → Cell
+cellOf l c r = cell (shownAt l c r) (validAt l c r)
+
+-- what a call puts in the rows that it adds: a value its bytes, a view the named part of its block, a column what its rows show
+abbrev pub added : Call → Builder → List Cell
+added (add·values n x) b = replicate n (cell x true)
+added add·null b = no·value ∷ []
+added (add·block x) b = []
+added (add·view k offset n) b = cell (viewed b k offset n) true ∷ []
+added (add·column l c) b = rowsOf (cellOf l c) (c .rows)
+added finish·copy b = []
+added finish b = []
+
+-- only finish takes the rows before away
+abbrev pub stays : Call → List Cell → List Cell
+stays (add·values n x) xs = xs
+stays add·null xs = xs
+stays (add·block x) xs = xs
+stays (add·view k offset n) xs = xs
+stays (add·column l c) xs = xs
+stays finish·copy xs = xs
+stays finish xs = []
+
+abbrev pub after : Call → Builder → List Cell → List Cell
+after c b xs = stays c xs ++ added c b
+
+-- what was put in the rows by calls from a builder on, whose rows had xs in them
+unfoldable pub rowsAfter : List Call → Builder → List Cell → List Cell
+rowsAfter [] b xs = xs
+rowsAfter (c ∷ cs) b xs = rowsAfter cs (put c b) (after c b xs)
+
+-- ---- values and nulls alone
 
 pub data Item : Type 0 where
   value : List ℕ → Item
@@ -22,25 +114,21 @@ abbrev pub isValue : Item → Bool
 isValue (value x) = true
 isValue null = false
 
--- a value once is a value one time
-pub data Call : Type 0 where
-  values : ℕ → List ℕ → Call
-  nulls : Call
+-- what is put in the row of one
+abbrev pub cellFor : Item → Cell
+cellFor (value x) = cell x true
+cellFor null = no·value
 
-unfoldable pub appended : List Call → List Item
+-- the value and null calls
+pub data Entry : Type 0 where
+  values : ℕ → List ℕ → Entry
+  nulls : Entry
+
+abbrev pub call : Entry → Call
+call (values n x) = add·values n x
+call nulls = add·null
+
+unfoldable pub appended : List Entry → List Item
 appended [] = []
 appended (values n x ∷ cs) = replicate n (value x) ++ appended cs
 appended (nulls ∷ cs) = null ∷ appended cs
-
-abbrev pub why : Call → Builder → Why
-why (values n x) b = whyValues n b x
-why nulls b = whyNull b
-
-abbrev pub put : Call → Builder → Builder
-put (values n x) b = putValues n x b
-put nulls b = putNull b
-
--- each call takes the state and buffers as the call before left them, and none is refused
-pub data Ran : List Call → Builder → Builder → Type 0 where
-  none : {b : Builder} → Ran [] b b
-  more : {c : Call} {cs : List Call} {b e : Builder} → why c b ≡ Accepted → Ran cs (put c b) e → Ran (c ∷ cs) b e

@@ -20,7 +20,8 @@ use Rattle.builder.specs.State.{Builder}
 use Rattle.builder.specs.Start.{whyStart, start}
 use Rattle.builder.specs.Start as Start
 use Rattle.builder.specs.Values.{whyValues, putValues}
-use Rattle.builder.specs.Finish.{whyFinish, columnOf, finished}
+use Rattle.builder.specs.Get.{columnOf}
+use Rattle.builder.specs.Finish.{whyFinish, finished}
 
 -- why a value call is refused, what an accepted one leaves, the column that finish answers, a comparison, a null run, a total
 pub record Library : Type 0 where

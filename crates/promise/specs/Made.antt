@@ -1,7 +1,7 @@
 -- The columns that come of one list of values and nulls: finished under any settings, over buffers of any content and size, and compacted, again and again, into
 -- buffers of their own at any maximum. What is promised of them is said by the definitions of the reading calls. Assumes nothing.
 use mathlib.Core.Path.{_≡_}
-use mathlib.Core.List.{List}
+use mathlib.Core.List.{List, map}
 use Prim.Native.Nat.{ℕ, _<_}
 use lib.ListN.{length, getD}
 use Rattle.order.specs.Order.{cmp}
@@ -14,15 +14,16 @@ use Rattle.comparison.specs.declared.Compared.the-variants as compared
 use Rattle.builder.specs.declared.Settings.{Settings}
 use Rattle.builder.specs.State.{Builder}
 use Rattle.builder.specs.Start.{whyStart, start}
-use Rattle.builder.specs.Finish.{whyFinish, columnOf, finished}
+use Rattle.builder.specs.Get.{columnOf}
+use Rattle.builder.specs.Finish.{whyFinish, finished}
 use Rattle.compaction.specs.Compact.{whyCompact, compacted, compactColumn}
 use Rattle.compaction.specs.Bounded.{Bounded}
-use Rattle.promise.specs.Calls.{Item, null, bytesOf, isValue, Call, appended, Ran}
+use Rattle.promise.specs.Calls.{Item, null, bytesOf, isValue, Entry, call, appended, Ran}
 
 -- nothing was refused on the way to it
 pub data Made (xs : List Item) : Lent → Column → Type 0 where
-  built : (t : Settings) (l : Lent) (places : List ℕ) (cs : List Call) (b : Builder)
-      → whyStart t ≡ Accepted → appended cs ≡ xs → Ran cs (start t l places) b → whyFinish b ≡ Accepted → Made xs (finished b .lent) (columnOf b)
+  built : (t : Settings) (l : Lent) (places : List ℕ) (cs : List Entry) (b : Builder)
+      → whyStart t ≡ Accepted → appended cs ≡ xs → Ran (map call cs) (start t l places) b → whyFinish b ≡ Accepted → Made xs (finished b .lent) (columnOf b)
   again : (most : ℕ) (out : Lent) {l : Lent} {c : Column} → Made xs l c → whyCompact most l c out ≡ Accepted → Made xs (compacted most l c out) (compactColumn most l c)
 
 -- at each row the value or null that was appended

@@ -1,7 +1,7 @@
 -- No second answer to any call; none writes a lent buffer. Assumes nothing.
-use mathlib.Core.Path.{_≡_, sym, _∙_}
+use mathlib.Core.Path.{sym, _∙_}
 use denote.Ref.{now}
-use Rattle.words.specs.Only.{Only}
+use Rattle.basis.specs.Only.{Only}
 use Rattle.reading.proofs.why_value.Kinds as why-value-kinds
 use Rattle.reading.proofs.why_value.Reads as why-value
 use Rattle.reading.proofs.value.Kinds as value-kinds

@@ -4,10 +4,9 @@ use mathlib.Core.List.{List, []}
 use Prim.Native.Nat.{ℕ, zero, suc, _+_, _-_}
 use lib.Dec.{leb, ltb}
 use lib.ListN.{length, take, drop}
-use Rattle.words.specs.Pick.{pick}
+use Rattle.basis.specs.Pick.{pick}
 use Rattle.null_bits.specs.Bits.{countNulls}
 use Rattle.bounds.specs.Refusals.{refuse, ifAccepted}
-use Rattle.bounds.specs.declared.Refusal.{Refusal}
 use Rattle.bounds.specs.declared.Refusal.the-variants.{Fit, Row, BadView}
 use Rattle.bounds.specs.declared.Why.{Why}
 use Rattle.bounds.specs.declared.Why.the-variants.{Accepted, Refused}

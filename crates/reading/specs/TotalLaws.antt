@@ -5,7 +5,7 @@ use mathlib.Core.List.{List, []}
 use Prim.Native.Nat.{ℕ, zero, suc, _+_, _*_, _≤_}
 use native.Mathlib.Numerals.{add-one}
 use lib.ListN.{length}
-use Rattle.words.specs.Pick.{pick}
+use Rattle.basis.specs.Pick.{pick}
 use Rattle.bounds.specs.Bounds.{rowLimit}
 use Rattle.null_bits.specs.Bits as bits
 use Rattle.views.specs.View.{viewSize, lengthOf, isShort, viewAt}

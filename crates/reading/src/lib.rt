@@ -5,7 +5,7 @@ ghost use mathlib.Core.Bool.{true, false};
 ghost use mathlib.Core.List.{[]};
 ghost use Prim.Native.Nat.{_+_, _*_, _/_, _≤_, _<_};
 ghost use lib.ListN.{length};
-ghost use Rattle.words.specs.Pick.{pick};
+ghost use Rattle.basis.specs.Pick.{pick};
 ghost use Rattle.null_bits.specs.Bits as bits;
 ghost use Rattle.views.specs.View.{viewSize, lengthOf, isShort, viewAt};
 ghost use Rattle.column.specs.Lent.{lent, buffers};

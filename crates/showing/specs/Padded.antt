@@ -6,7 +6,7 @@ use Prim.Native.Nat.{ℕ, zero, suc, _≤_, compare, Ordering, Ordering·lt, Ord
 use native.Mathlib.Nat.{le-of-suc-le-suc, not-suc-le-zero}
 use borrow.Author.Tests.{leb-true}
 use lib.ListN.{length}
-use Rattle.words.specs.Pick.{pick}
+use Rattle.basis.specs.Pick.{pick}
 use Rattle.words.specs.Words.{pad}
 use Rattle.order.specs.Order.{thenby, cmp}
 use Rattle.order.specs.OrderLaws.{cmp-same}

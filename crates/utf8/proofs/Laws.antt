@@ -14,7 +14,7 @@ use lib.Dec.{leb, ltb, lit<}
 use lib.ListN.{length, getD, drop, length-drop}
 use lib.Pow.{pow-add, pow-pos}
 use lib.Seq.{drop-cons, drop-drop, drop-length}
-use Rattle.words.specs.Pick.{pick}
+use Rattle.basis.specs.Pick.{pick}
 use Rattle.words.specs.Words.{Bytes, wordAt}
 use Rattle.words.specs.WordLaws.{word-lt}
 use Rattle.utf8.specs.declared.Lead.{Lead}

@@ -1,7 +1,6 @@
 // Tries every string of one, two and three bytes and writes how many of each are well-formed UTF-8.
 use libc::STDOUT_FILENO;
-ghost use Prim.Native.Nat.{_+_, _≤_};
-
+ghost use Prim.Native.Nat.{_≤_};
 // 1 if the first n bytes are a well-formed text.
 fn formed(buf: &[u8], n: usize) -> u64
     ensures { λ r. ⌜ r ≤ 1 ⌝ }

@@ -1,7 +1,7 @@
 -- No second answer to the check.
 -- Assumes nothing.
 use mathlib.Core.Path.{sym, _∙_}
-use Rattle.words.specs.Only.{Only}
+use Rattle.basis.specs.Only.{Only}
 use Rattle.validity.proofs.check.Kinds as check-kinds
 use Rattle.validity.proofs.check.Reads as check
 

@@ -8,7 +8,7 @@ use native.Mathlib.Omega.{arith}
 use borrow.Author.Tests.{lt-ltb, le-ltb, le-leb, lt-leb}
 use lib.ListN.{drop-of-length-le, length, take, drop, length-append, length-drop}
 use lib.Seq.{take-nil, take-append-le, take-at, drop-at, take-all, take-take, drop-drop, length-take-le, paste, drop-paste}
-use Rattle.words.specs.Pick.{pick}
+use Rattle.basis.specs.Pick.{pick}
 use Rattle.words.specs.Words.{Bytes, wordAt, enc, pad}
 use Rattle.words.specs.WordLaws.{word-lt}
 use Rattle.words.specs.ListLaws.{length-enc, dec-enc, length-pad, take-pad, pad-short, take-length-pad, word-dec, word-part}

@@ -1,5 +1,3 @@
-pub mod Pick
-pub mod Only
 pub mod Words
 pub mod WordLaws
 pub mod ListLaws

@@ -1,8 +1,8 @@
 -- Laws of numbers as lists of bytes (enc, dec), of padding, and of the words at a place as such lists. Assumes nothing.
 use mathlib.Core.Path.{_≡_, refl, sym, ap, _∙_}
-use mathlib.Core.List.{List, [], _∷_, _++_}
+use mathlib.Core.List.{List, [], _∷_}
 use mathlib.Core.Bool.{Bool, true, false}
-use Prim.Native.Nat.{ℕ, zero, suc, _+_, _-_, _*_, _/_, _%_, _^_, _≤_, _<_}
+use Prim.Native.Nat.{ℕ, zero, suc, _+_, _*_, _/_, _%_, _^_, _≤_, _<_}
 use native.Mathlib.Nat.{le-of-suc-le-suc, not-suc-le-zero, div-add-mod', add-zero, add-suc, add-assoc, add-comm, div-one, mul-suc}
 use native.Mathlib.Numerals.{add-one, one-add}
 use native.Mathlib.Omega.{arith}
@@ -10,7 +10,7 @@ use borrow.Author.Tests.{ltb-true, ltb-false}
 use lib.Dec.{ltb, lit<}
 use lib.ListN.{length, take, drop, getD, set, drop-of-length-le, List·getD-eq-default, length-take, length-drop}
 use lib.Pow.{shr-shr}
-use lib.Seq.{drop-cons, getD-take, getD-drop, take-nil, paste, paste-zero, paste-suc, length-take-le, length-paste, take-take, drop-drop}
+use lib.Seq.{drop-cons, getD-take, getD-drop, paste, paste-zero, paste-suc, length-take-le, length-paste, take-take, drop-drop}
 use Rattle.words.specs.Words.{Bytes, wordAt, beAt, putWord, enc, dec, pad}
 use Rattle.words.specs.WordLaws.{word-split, word-past, word-one, length-put}
 

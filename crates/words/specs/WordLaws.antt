@@ -1,5 +1,5 @@
 -- Laws of numbers in bytes. Assumes nothing.
-use mathlib.Core.Path.{_≡_, refl, sym, ap, _∙_}
+use mathlib.Core.Path.{_≡_, refl, sym, _∙_}
 use mathlib.Core.List.{List}
 use Prim.Native.Nat.{ℕ, zero, suc, _+_, _-_, _*_, _/_, _%_, _^_, _≤_, _<_}
 use native.Mathlib.Nat.{add-zero, add-suc, add-assoc, mul-suc, mul-zero, zero-mul, mul-add, mul-left-comm, mul-comm, add-comm, div-one}

@@ -14,7 +14,7 @@ use ghost.Atoms.{Atoms, sem}
 use contract.Monad.{Fun, fact}
 use contract.Running.{givenOf, tables, tablesOf}
 use types.Kit.{Given, ‵, _⊛_, ⋆, _$_, _∵_, !, qed, by, move, split, join, fsplit, fjoin, suffices, frame, done, rewrite, drop, raw, some, later, use1, use2, pick, await, given, learn}
-use types.Run.{look, init, forget, stop, fld, from, load, of-opd, assigns, returns, enter, alloc1, alloc0, params1, pass1, pass0, free1, free0, first, and-then, no-more, land}
+use types.Run.{look, init, forget, stop, fld, from, load, of-opd, assigns, returns, enter, alloc1, alloc0, params1, pass1, pass0, free1, free0, and-then, no-more, land}
 use types.Part.{whole, sub, look-in, agg}
 use sound.WpLaws.{WpFn-mono, FmC, fmOf}
 use denote.RattleType.{owns, RattleType}
@@ -48,7 +48,6 @@ use Rattle.column.specs.declared.Block.{Block}
 use Rattle.column.specs.declared.Column.{Column}
 use Rattle.column.specs.Lent.{Lent}
 use Rattle.reading.specs.Reading.{whyValue, valueAt}
-use Rattle.reading.specs.Walk.{cursor, walkValue, walkStep}
 use Rattle.blocks.specs.declared.Walk.{Walk}
 use Rattle.blocks.specs.declared.Item.{Item}
 use Rattle.blocks.specs.Walk.{heldBy, placeAfter, walk-value, walk-why, walk-place}

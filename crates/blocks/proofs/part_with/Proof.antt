@@ -3,7 +3,7 @@ use mathlib.Core.Path.{refl, _∙_}
 use native.Mathlib.Omega.{arith}
 use borrow.Author.Needs.{needs}
 use Rattle.bounds.specs.Bounds.{byte-limit-small}
-use Rattle.words.specs.Pick.{part-is}
+use Rattle.basis.specs.Pick.{part-is}
 use Rattle.column.specs.ReachLaws.{shown-short-at}
 use Rattle.blocks.specs.SeenLaws.{long-shown}
 use Rattle.blocks.specs.PlacesLaws.{part-length}

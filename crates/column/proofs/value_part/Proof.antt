@@ -4,7 +4,7 @@ use native.Mathlib.Omega.{arith}
 use borrow.Author.Needs.{needs}
 use Rattle.bounds.specs.Bounds.{byte-limit-small}
 use Rattle.column.specs.ReachLaws.{part-shown, reach-spans, shown-short-at}
-use Rattle.words.specs.Pick.{part-is}
+use Rattle.basis.specs.Pick.{part-is}
 use Rattle.column.proofs.value_part.Statement.{statement}
 use Rattle.column.proofs.value_part.Tie as tie
 

@@ -6,63 +6,46 @@ use native.Mathlib.Omega.{arith}
 use borrow.Author.Needs.{needs}
 use Rattle.copy.proofs.two_halves.Statement.{statement}
 use Rattle.copy.proofs.two_halves.Tie as tie
-use Rattle.copy.proofs.two_halves.Reads as reads
-use Rattle.copy.proofs.two_halves.Lts as lts
-use Rattle.copy.proofs.four_words.Reads as four-words-reads
 
--- src/lib.rt:40:13
 sub-o : tie.Need-sub-o
 sub-o c = search needs
 
--- src/lib.rt:41:12
 sub-four-words : tie.Need-sub-four-words
 sub-four-words c = search needs
 
--- src/lib.rt:41:12
 part-four-words-start : tie.Need-part-four-words-start
 part-four-words-start c = search needs
 
--- src/lib.rt:41:12
 part-four-words-end : tie.Need-part-four-words-end
 part-four-words-end c = search needs
 
--- src/lib.rt:41:5
 four-words-requires : tie.Need-four-words-requires
 four-words-requires c κs = search needs
 
--- src/lib.rt:42:12
 sub-four-words-2 : tie.Need-sub-four-words-2
 sub-four-words-2 c = search needs
 
--- src/lib.rt:42:12
 part-four-words-start-2 : tie.Need-part-four-words-start-2
 part-four-words-start-2 c = search needs
 
--- src/lib.rt:42:12
 part-four-words-end-2 : tie.Need-part-four-words-end-2
 part-four-words-end-2 c = search needs
 
--- src/lib.rt:42:23
 sub-four-words-3 : tie.Need-sub-four-words-3
 sub-four-words-3 c = search needs
 
--- src/lib.rt:42:23
 part-four-words-start-3 : tie.Need-part-four-words-start-3
 part-four-words-start-3 c = search needs
 
--- src/lib.rt:42:23
 part-four-words-end-3 : tie.Need-part-four-words-end-3
 part-four-words-end-3 c = search needs
 
--- src/lib.rt:42:5
 four-words-requires-2 : tie.Need-four-words-requires-2
 four-words-requires-2 c κs = search needs
 
--- src/lib.rt:36:1
 same-length : tie.Need-same-length
 same-length c = search needs
 
--- src/lib.rt:36:1
 returns : tie.Need-returns
 returns c =
     let s = c .before .before .before .before .before .before .before .before .before .before .before .before .args in

@@ -3,19 +3,15 @@ use Rattle.leaf_exports.proofs.Laws.{parts-end}
 use Rattle.leaf_exports.specs.Batches.{partsCopied}
 use Rattle.copy.specs.OverLaws.{copied-none, copied-more, copied-length}
 use Rattle.copy.specs.Over.{copied}
-use native.Mathlib.Nat.{add-mod-right, zero-mod, mul-zero}
+use native.Mathlib.Nat.{add-mod-right, zero-mod}
 use lib.ListN.{length}
-use Prim.Native.Nat.{ℕ, _+_, _-_, _*_, _/_, _%_, _≤_, _<_, min}
-use mathlib.Core.Path.{_≡_, refl, sym, ap, _∙_}
+use Prim.Native.Nat.{_+_, _-_, _%_, _≤_, _<_, min}
+use mathlib.Core.Path.{_≡_, refl, ap, _∙_}
 use denote.Ref.{now}
 use native.Mathlib.Omega.{arith}
 use borrow.Author.Needs.{needs}
 use Rattle.leaf_exports.proofs.leaf_copy_parts.Statement.{statement}
 use Rattle.leaf_exports.proofs.leaf_copy_parts.Tie as tie
-use Rattle.leaf_exports.proofs.leaf_copy_parts.Reads as reads
-use Rattle.leaf_exports.proofs.leaf_copy_parts.Lts as lts
-use Rattle.copy.proofs.copy.Reads as copy-reads
-use Rattle.words.proofs.least.Reads as least-reads
 
 abbrev Inv-loop : tie.InvT-loop
 Inv-loop src dst₀ n room o₀ dst o = (0 < n) × (room ≡ min (length src) (length dst₀)) × (o ≤ room) × (o % n ≡ 0) × (length dst ≡ length dst₀) × (dst ≡ copied dst₀ src o)
@@ -23,62 +19,48 @@ Inv-loop src dst₀ n room o₀ dst o = (0 < n) × (room ≡ min (length src) (l
 abbrev μ-loop : tie.MeasureT-loop
 μ-loop src dst₀ n room o₀ dst o = room - o
 
--- src/lib.rt:36:9
 returns : tie.Need-returns Inv-loop μ-loop
 unfolding partsCopied
 returns c =
     let s = c .before .before .before .args in
     copied-none _ _ ∙ no-parts (now (s .dst)) (now (s .src)) (s .n) _ (c .if1 .taken)
 
--- src/lib.rt:38:9
 least-requires : tie.Need-least-requires Inv-loop μ-loop
 least-requires c κs = search needs
 
--- src/lib.rt:40:5
 loop-holds : tie.Need-loop-holds Inv-loop μ-loop
 loop-holds c = (search needs, search needs, search needs, zero-mod _, refl, copied-none _ _)
 
--- src/lib.rt:40:16
 sub-loop : tie.Need-sub-loop Inv-loop μ-loop
 sub-loop c = search needs
 
--- src/lib.rt:41:17
 add-e : tie.Need-add-e Inv-loop μ-loop
 add-e c = search needs
 
--- src/lib.rt:42:20
 sub-copy : tie.Need-sub-copy Inv-loop μ-loop
 sub-copy c = search needs
 
--- src/lib.rt:42:20
 part-copy-start : tie.Need-part-copy-start Inv-loop μ-loop
 part-copy-start c = search needs
 
--- src/lib.rt:42:20
 part-copy-end : tie.Need-part-copy-end Inv-loop μ-loop
 part-copy-end c = search needs
 
--- src/lib.rt:42:32
 sub-copy-2 : tie.Need-sub-copy-2 Inv-loop μ-loop
 sub-copy-2 c = search needs
 
--- src/lib.rt:42:32
 part-copy-start-2 : tie.Need-part-copy-start-2 Inv-loop μ-loop
 part-copy-start-2 c = search needs
 
--- src/lib.rt:42:32
 part-copy-end-2 : tie.Need-part-copy-end-2 Inv-loop μ-loop
 part-copy-end-2 c = search needs
 
--- src/lib.rt:42:9
 copy-requires : tie.Need-copy-requires Inv-loop μ-loop
 copy-requires c κs = search needs
 
--- src/lib.rt:40:5
 loop-less : tie.Need-loop-less Inv-loop μ-loop
 loop-less c = search needs
 
--- src/lib.rt:40:5
 loop-again : tie.Need-loop-again Inv-loop μ-loop
 loop-again c =
     let s = c .before .before .before .before .before .before .before .before .before .before .before .args in
@@ -87,11 +69,9 @@ loop-again c =
     let next = copied-more (now (s .dst)) (now (s .src)) (l .dst) _ (l .o) (s .n) (omega arith) (l .inv .5) (rw k at (c .before .before .copy .ensures)) in
     (search needs, search needs, search needs, add-mod-right _ _ ∙ l .inv .3, ap length next ∙ copied-length (now (s .dst)) (now (s .src)) (l .o + s .n) (omega arith) (omega arith), next)
 
--- src/lib.rt:31:1
 same-length : tie.Need-same-length Inv-loop μ-loop
 same-length c = search needs
 
--- src/lib.rt:31:1
 returns-2 : tie.Need-returns-2 Inv-loop μ-loop
 unfolding partsCopied
 returns-2 c =

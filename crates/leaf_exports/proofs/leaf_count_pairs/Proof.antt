@@ -1,17 +1,13 @@
 use Rattle.leaf_exports.specs.Batches.{summed, pairIn, pairsBatch}
 use Rattle.leaf_exports.proofs.Laws.{summed-more}
 use lib.ListN.{length, getD}
-use Prim.Native.Nat.{ℕ, _+_, _-_, _*_, _/_, _%_, _≤_, _<_}
-use mathlib.Core.Path.{_≡_, refl, sym, ap, _∙_}
+use Prim.Native.Nat.{_+_, _-_, _≤_}
+use mathlib.Core.Path.{_≡_, refl}
 use denote.Ref.{now}
 use native.Mathlib.Omega.{arith}
 use borrow.Author.Needs.{needs}
 use Rattle.leaf_exports.proofs.leaf_count_pairs.Statement.{statement}
 use Rattle.leaf_exports.proofs.leaf_count_pairs.Tie as tie
-use Rattle.leaf_exports.proofs.leaf_count_pairs.Reads as reads
-use Rattle.leaf_exports.proofs.leaf_count_pairs.Lts as lts
-use Rattle.leaf_exports.proofs.pair_in.Reads as pair-in-reads
-use Rattle.std.proofs.num.wrapping_add_u64.Reads as wrapping-add-u64-reads
 
 abbrev Inv-loop : tie.InvT-loop
 Inv-loop bytes ends sameness n sum₀ k₀ sum k = (n ≡ length ends) × (2 ≤ n) × (k ≤ n - 2) × (sum ≡ summed (λ j. pairIn bytes (getD ends j 0) (getD ends (j + 1) 0) (getD ends (j + 2) 0) sameness) k)
@@ -19,71 +15,55 @@ Inv-loop bytes ends sameness n sum₀ k₀ sum k = (n ≡ length ends) × (2 ≤
 abbrev μ-loop : tie.MeasureT-loop
 μ-loop bytes ends sameness n sum₀ k₀ sum k = n - k
 
--- src/lib.rt:76:9
 returns : tie.Need-returns Inv-loop μ-loop
 unfolding pairsBatch summed
 returns c =
     let e : length (now (c .before .before .before .args .ends)) - 2 ≡ 0 = omega arith in
     rw e
 
--- src/lib.rt:80:5
 loop-holds : tie.Need-loop-holds Inv-loop μ-loop
 unfolding summed
 loop-holds c = (search needs, search needs, search needs, refl)
 
--- src/lib.rt:81:32
 mul-pair-in : tie.Need-mul-pair-in Inv-loop μ-loop
 mul-pair-in c = search needs
 
--- src/lib.rt:81:32
 shared-slice-read-pair-in : tie.Need-shared-slice-read-pair-in Inv-loop μ-loop
 shared-slice-read-pair-in c = search needs
 
--- src/lib.rt:81:46
 add-pair-in : tie.Need-add-pair-in Inv-loop μ-loop
 add-pair-in c = search needs
 
--- src/lib.rt:81:41
 mul-pair-in-2 : tie.Need-mul-pair-in-2 Inv-loop μ-loop
 mul-pair-in-2 c = search needs
 
--- src/lib.rt:81:41
 shared-slice-read-pair-in-2 : tie.Need-shared-slice-read-pair-in-2 Inv-loop μ-loop
 shared-slice-read-pair-in-2 c = search needs
 
--- src/lib.rt:81:59
 add-pair-in-2 : tie.Need-add-pair-in-2 Inv-loop μ-loop
 add-pair-in-2 c = search needs
 
--- src/lib.rt:81:54
 mul-pair-in-3 : tie.Need-mul-pair-in-3 Inv-loop μ-loop
 mul-pair-in-3 c = search needs
 
--- src/lib.rt:81:54
 shared-slice-read-pair-in-3 : tie.Need-shared-slice-read-pair-in-3 Inv-loop μ-loop
 shared-slice-read-pair-in-3 c = search needs
 
--- src/lib.rt:81:13
 pair-in-requires : tie.Need-pair-in-requires Inv-loop μ-loop
 pair-in-requires c κs = search needs
 
--- src/lib.rt:82:9
 wrapping-add-u64-requires : tie.Need-wrapping-add-u64-requires Inv-loop μ-loop
 wrapping-add-u64-requires c κs = search needs
 
--- src/lib.rt:83:9
 add-k : tie.Need-add-k Inv-loop μ-loop
 add-k c = search needs
 
--- src/lib.rt:80:5
 loop-less : tie.Need-loop-less Inv-loop μ-loop
 loop-less c = search needs
 
--- src/lib.rt:80:5
 loop-again : tie.Need-loop-again Inv-loop μ-loop
 loop-again c = (search needs, search needs, search needs, summed-more _ _ _ _ _ (c .before .before .before .before .before .before .loop .inv .3) (c .before .pair-in .ensures) (c .wrapping-add-u64 .ensures))
 
--- src/lib.rt:70:1
 returns-2 : tie.Need-returns-2 Inv-loop μ-loop
 unfolding pairsBatch
 returns-2 c =

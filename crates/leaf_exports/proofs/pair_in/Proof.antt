@@ -1,92 +1,69 @@
 use Rattle.leaf_exports.specs.Batches.{pairIn, oneIfLess}
-use Rattle.words.specs.Pick.{pick}
+use Rattle.basis.specs.Pick.{pick}
 use mathlib.Core.Bool.{Bool}
 use Prim.Native.Nat.{ℕ}
-use mathlib.Core.Path.{_≡_, ap, _∙_}
+use mathlib.Core.Path.{ap, _∙_}
 use Rattle.leaf_exports.proofs.Laws.{first-out, second-out, end-out, both-in}
 use denote.Ref.{now}
 use native.Mathlib.Omega.{arith}
 use borrow.Author.Needs.{needs}
 use Rattle.leaf_exports.proofs.pair_in.Statement.{statement}
 use Rattle.leaf_exports.proofs.pair_in.Tie as tie
-use Rattle.leaf_exports.proofs.pair_in.Reads as reads
-use Rattle.leaf_exports.proofs.pair_in.Lts as lts
-use Rattle.leaf_exports.proofs.one_if.Reads as one-if-reads
-use Rattle.leaf_exports.proofs.one_if_less.Reads as one-if-less-reads
-use Rattle.order.proofs.cmp.Reads as cmp-reads
-use Rattle.order.proofs.same.Reads as same-reads
 
--- src/lib.rt:69:9
 returns : tie.Need-returns
 unfolding pairIn
 returns c = let a = c .before .before .args in first-out (now (a .bytes)) (a .s) (a .m) (a .e) _ (omega arith)
 
--- src/lib.rt:72:9
 returns-2 : tie.Need-returns-2
 unfolding pairIn
 returns-2 c = let a = c .before .before .before .args in second-out (now (a .bytes)) (a .s) (a .m) (a .e) _ (omega arith) (omega arith)
 
--- src/lib.rt:75:9
 returns-3 : tie.Need-returns-3
 unfolding pairIn
 returns-3 c = let a = c .before .before .before .before .args in end-out (now (a .bytes)) (a .s) (a .m) (a .e) _ (omega arith) (omega arith) (omega arith)
 
--- src/lib.rt:78:35
 part-same-start : tie.Need-part-same-start
 part-same-start c = search needs
 
--- src/lib.rt:78:35
 part-same-end : tie.Need-part-same-end
 part-same-end c = search needs
 
--- src/lib.rt:78:49
 part-same-start-2 : tie.Need-part-same-start-2
 part-same-start-2 c = search needs
 
--- src/lib.rt:78:49
 part-same-end-2 : tie.Need-part-same-end-2
 part-same-end-2 c = search needs
 
--- src/lib.rt:78:23
 same-requires : tie.Need-same-requires
 same-requires c κs = search needs
 
--- src/lib.rt:78:9
 one-if-requires : tie.Need-one-if-requires
 one-if-requires c κs = search needs
 
--- src/lib.rt:78:9
 returns-4 : tie.Need-returns-4
 unfolding pairIn
 returns-4 c =
     let a = c .before .before .before .before .before .before .before .before .before .args in
     both-in (now (a .bytes)) (a .s) (a .m) (a .e) _ _ (omega arith) (omega arith) (omega arith) (rw (c .before .before .before .before .if4 .taken) (c .one-if .ensures ∙ ap (λ (t : Bool). pick {A = ℕ} t 1 0) (c .before .same .ensures)))
 
--- src/lib.rt:80:28
 part-cmp-start : tie.Need-part-cmp-start
 part-cmp-start c = search needs
 
--- src/lib.rt:80:28
 part-cmp-end : tie.Need-part-cmp-end
 part-cmp-end c = search needs
 
--- src/lib.rt:80:42
 part-cmp-start-2 : tie.Need-part-cmp-start-2
 part-cmp-start-2 c = search needs
 
--- src/lib.rt:80:42
 part-cmp-end-2 : tie.Need-part-cmp-end-2
 part-cmp-end-2 c = search needs
 
--- src/lib.rt:80:17
 cmp-requires : tie.Need-cmp-requires
 cmp-requires c κs = search needs
 
--- src/lib.rt:80:5
 one-if-less-requires : tie.Need-one-if-less-requires
 one-if-less-requires c κs = search needs
 
--- src/lib.rt:65:1
 returns-5 : tie.Need-returns-5
 unfolding pairIn
 returns-5 c =

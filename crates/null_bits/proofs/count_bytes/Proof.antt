@@ -1,6 +1,6 @@
 use denote.Ref.{now}
 use lib.Count.{ones-le}
-use mathlib.Core.Path.{_≡_, refl, ap, sym, _∙_}
+use mathlib.Core.Path.{_≡_, refl}
 use Prim.Native.Nat.{_+_, _-_, _*_, _≤_}
 use native.Mathlib.Omega.{arith}
 use Rattle.null_bits.specs.Bits.{countValid}
@@ -8,8 +8,6 @@ use Rattle.null_bits.specs.CountLaws.{count-le, counted}
 use Rattle.null_bits.proofs.Laws.{count-more-byte}
 use Rattle.null_bits.proofs.count_bytes.Statement.{statement}
 use Rattle.null_bits.proofs.count_bytes.Tie as tie
-use Rattle.null_bits.proofs.count_bytes.Reads as reads
-use Rattle.null_bits.proofs.count_bytes.Lts as lts
 
 abbrev Inv-loop : tie.InvT-loop
 Inv-loop map i bytes n₀ k₀ n k = (k ≤ bytes) × (n ≡ countValid map (8 * i) (8 * k))
@@ -17,48 +15,39 @@ Inv-loop map i bytes n₀ k₀ n k = (k ≤ bytes) × (n ≡ countValid map (8 *
 abbrev μ-loop : tie.MeasureT-loop
 μ-loop map i bytes n₀ k₀ n k = bytes - k
 
--- src/lib.rt:89:5
 loop-holds : tie.Need-loop-holds Inv-loop μ-loop
 unfolding countValid
 loop-holds c = (omega arith, refl)
 
--- src/lib.rt:90:33
 add-n : tie.Need-add-n Inv-loop μ-loop
 add-n c = omega arith
 
--- src/lib.rt:90:29
 shared-slice-read-n : tie.Need-shared-slice-read-n Inv-loop μ-loop
 shared-slice-read-n c = omega arith
 
--- src/lib.rt:90:14
 cast-n : tie.Need-cast-n Inv-loop μ-loop
 cast-n c =
     let a = c .before .before .before .args in
     omega (arith, ones-le 8 _ (c .shared-slice-known .given (a .i + c .before .before .loop .k) .fits))
 
--- src/lib.rt:90:9
 add-n-2 : tie.Need-add-n-2 Inv-loop μ-loop
 add-n-2 c =
     let a = c .before .before .before .args in
     let k = c .before .before .loop .k in
     omega (arith, ones-le 8 _ (c .shared-slice-known .given (a .i + k) .fits), count-le (now (a .map)) (8 * a .i) (8 * k))
 
--- src/lib.rt:91:9
 add-k : tie.Need-add-k Inv-loop μ-loop
 add-k c = omega arith
 
--- src/lib.rt:89:5
 loop-less : tie.Need-loop-less Inv-loop μ-loop
 loop-less c = omega arith
 
--- src/lib.rt:89:5
 loop-again : tie.Need-loop-again Inv-loop μ-loop
 loop-again c =
     let a = c .before .before .before .args in
     let k = c .before .before .loop .k in
     (omega arith, rw (c .before .before .loop .inv .1) (count-more-byte (now (a .map)) (a .i) k (c .shared-slice-known .given (a .i + k) .fits)))
 
--- src/lib.rt:83:1
 returns : tie.Need-returns Inv-loop μ-loop
 returns c =
     let e : c .before .loop .k ≡ c .before .before .args .bytes = omega arith in

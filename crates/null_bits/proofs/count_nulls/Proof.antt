@@ -5,25 +5,18 @@ use native.Mathlib.Omega.{arith}
 use borrow.Author.Needs.{needs}
 use Rattle.null_bits.proofs.count_nulls.Statement.{statement}
 use Rattle.null_bits.proofs.count_nulls.Tie as tie
-use Rattle.null_bits.proofs.count_nulls.Reads as reads
-use Rattle.null_bits.proofs.count_nulls.Lts as lts
-use Rattle.null_bits.proofs.count_valid.Reads as count-valid-reads
 
--- src/lib.rt:117:23
 count-valid-requires : tie.Need-count-valid-requires
 count-valid-requires c κs = c .before .before .pre (c .if1 .taken)
 
--- src/lib.rt:117:16
 sub-result : tie.Need-sub-result
 sub-result c = search needs
 
--- src/lib.rt:117:9
 returns : tie.Need-returns
 returns c =
     let a = c .before .before .before .args in
     rw (c .before .if1 .taken) (omega (arith, nulls-valid (now (a .map)) (a .first) (a .rows)))
 
--- src/lib.rt:112:1
 returns-2 : tie.Need-returns-2
 returns-2 c =
     let a = c .before .before .args in

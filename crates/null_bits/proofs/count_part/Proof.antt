@@ -8,37 +8,28 @@ use Rattle.null_bits.proofs.Laws.{shl-one-32, part-is, part-le, count-a
 use borrow.Author.Needs.{needs}
 use Rattle.null_bits.proofs.count_part.Statement.{statement}
 use Rattle.null_bits.proofs.count_part.Tie as tie
-use Rattle.null_bits.proofs.count_part.Reads as reads
-use Rattle.null_bits.proofs.count_part.Lts as lts
 
--- src/lib.rt:78:18
 shared-slice-read-part : tie.Need-shared-slice-read-part
 shared-slice-read-part c = search needs
 
--- src/lib.rt:78:18
 cast-part : tie.Need-cast-part
 cast-part c = omega (arith, c .shared-slice-known .given (c .before .args .i))
 
--- src/lib.rt:78:17
 shr-part : tie.Need-shr-part
 shr-part c = search needs
 
--- src/lib.rt:78:46
 shl-part : tie.Need-shl-part
 shl-part c = search needs
 
--- src/lib.rt:78:45
 sub-part : tie.Need-sub-part
 sub-part c = rw (shl-one-32 (c .before .args .rows) (omega arith)) (pow-pos (c .before .args .rows))
 
--- src/lib.rt:79:5
 cast-result : tie.Need-cast-result
 cast-result c =
     let a = c .before .args in
     let x = getD (now (a .map)) (a .i) 0 / 2 ^ a .skip in
     rw (part-is x (a .rows) (omega arith)) (omega (arith, part-le x (a .rows)))
 
--- src/lib.rt:74:1
 returns : tie.Need-returns
 returns c =
     let a = c .before .args in

@@ -7,120 +7,89 @@ use Rattle.null_bits.proofs.Laws.{count-three, count-four, cut}
 use borrow.Author.Needs.{needs}
 use Rattle.null_bits.proofs.count_valid.Statement.{statement}
 use Rattle.null_bits.proofs.count_valid.Tie as tie
-use Rattle.null_bits.proofs.count_valid.Reads as reads
-use Rattle.null_bits.proofs.count_valid.Lts as lts
-use Rattle.null_bits.proofs.count_bytes.Reads as count-bytes-reads
-use Rattle.null_bits.proofs.count_part.Reads as count-part-reads
-use Rattle.null_bits.proofs.count_words.Reads as count-words-reads
 
--- src/lib.rt:116:9
 returns : tie.Need-returns
 unfolding countValid
 returns c = counted _ _ _ _ (rw (c .if1 .taken))
 
--- src/lib.rt:120:16
 sub-head : tie.Need-sub-head
 sub-head c = search needs
 
--- src/lib.rt:122:35
 cast-count-part : tie.Need-cast-count-part
 cast-count-part c = search needs
 
--- src/lib.rt:122:48
 cast-count-part-2 : tie.Need-cast-count-part-2
 cast-count-part-2 c = search needs
 
--- src/lib.rt:122:9
 count-part-requires : tie.Need-count-part-requires
 count-part-requires c κs = search needs
 
--- src/lib.rt:122:9
 returns-2 : tie.Need-returns-2
 returns-2 c =
     let a = c .before .before .before .before .args in
     let e : 8 * (a .first / 8) + a .first % 8 ≡ a .first = omega arith in
     counted _ _ _ _ (rw e at (c .count-part .ensures .is))
 
--- src/lib.rt:124:32
 cast-count-part-3 : tie.Need-cast-count-part-3
 cast-count-part-3 c = search needs
 
--- src/lib.rt:124:45
 cast-count-part-4 : tie.Need-cast-count-part-4
 cast-count-part-4 c = search needs
 
--- src/lib.rt:124:9
 count-part-requires-2 : tie.Need-count-part-requires-2
 count-part-requires-2 c κs = search needs
 
--- src/lib.rt:125:16
 sub-left : tie.Need-sub-left
 sub-left c = search needs
 
--- src/lib.rt:127:30
 add-count-words : tie.Need-add-count-words
 add-count-words c = search needs
 
--- src/lib.rt:127:9
 count-words-requires : tie.Need-count-words-requires
 count-words-requires c κs = search needs
 
--- src/lib.rt:128:13
 add-j : tie.Need-add-j
 add-j c = search needs
 
--- src/lib.rt:128:21
 mul-j : tie.Need-mul-j
 mul-j c = search needs
 
--- src/lib.rt:128:13
 add-j-2 : tie.Need-add-j-2
 add-j-2 c = search needs
 
--- src/lib.rt:130:9
 count-bytes-requires : tie.Need-count-bytes-requires
 count-bytes-requires c κs = search needs
 
--- src/lib.rt:133:16
 add-result : tie.Need-add-result
 add-result c = search needs
 
--- src/lib.rt:133:16
 add-result-2 : tie.Need-add-result-2
 add-result-2 c = search needs
 
--- src/lib.rt:133:9
 returns-3 : tie.Need-returns-3
 returns-3 c =
     counted _ _ _ _
     (rw (c .before .before .before .count-part2 .ensures .is, c .before .before .count-words .ensures .is, c .before .count-bytes .ensures .is)
     (count-three _ _ _ _ _ _ _ _ _ (omega arith) (omega arith) (omega arith) (omega arith)))
 
--- src/lib.rt:135:5
 add-result-3 : tie.Need-add-result-3
 add-result-3 c = search needs
 
--- src/lib.rt:135:5
 add-result-4 : tie.Need-add-result-4
 add-result-4 c = search needs
 
--- src/lib.rt:135:33
 add-count-part : tie.Need-add-count-part
 add-count-part c = search needs
 
--- src/lib.rt:135:47
 cast-count-part-5 : tie.Need-cast-count-part-5
 cast-count-part-5 c = search needs
 
--- src/lib.rt:135:17
 count-part-requires-3 : tie.Need-count-part-requires-3
 count-part-requires-3 c κs = search needs
 
--- src/lib.rt:135:5
 add-result-5 : tie.Need-add-result-5
 add-result-5 c = search needs
 
--- src/lib.rt:111:1
 returns-4 : tie.Need-returns-4
 returns-4 c =
     counted _ _ _ _

@@ -1,27 +1,20 @@
 use Rattle.null_bits.specs.Bits.{bitAt, isValid}
 use Prim.Native.Nat.{_/_}
 use mathlib.Core.Path.{refl}
-use denote.Ref.{now}
 use native.Mathlib.Omega.{arith}
 use borrow.Author.Needs.{needs}
 use Rattle.null_bits.proofs.is_valid.Statement.{statement}
 use Rattle.null_bits.proofs.is_valid.Tie as tie
-use Rattle.null_bits.proofs.is_valid.Reads as reads
-use Rattle.null_bits.proofs.is_valid.Lts as lts
 
--- src/lib.rt:16:7
 shared-slice-read-result : tie.Need-shared-slice-read-result
 shared-slice-read-result c = search needs
 
--- src/lib.rt:16:7
 cast-result : tie.Need-cast-result
 cast-result c = omega (arith, c .shared-slice-known .given (c .before .args .row / 8))
 
--- src/lib.rt:16:6
 shr-result : tie.Need-shr-result
 shr-result c = search needs
 
--- src/lib.rt:12:1
 returns : tie.Need-returns
 unfolding isValid bitAt
 returns c = refl

@@ -10,63 +10,49 @@ use native.Mathlib.Omega.{arith}
 use borrow.Author.Needs.{needs}
 use Rattle.null_bits.proofs.put_bit.Statement.{statement}
 use Rattle.null_bits.proofs.put_bit.Tie as tie
-use Rattle.null_bits.proofs.put_bit.Reads as reads
-use Rattle.null_bits.proofs.put_bit.Lts as lts
 
--- src/lib.rt:42:15
 shl-one : tie.Need-shl-one
 shl-one c = search needs
 
--- src/lib.rt:43:17
 slice-read-kept : tie.Need-slice-read-kept
 slice-read-kept c = search needs
 
--- src/lib.rt:43:17
 cast-kept : tie.Need-cast-kept
 cast-kept c = omega (arith, c .slice-known .given (c .before .args .row / 8))
 
--- src/lib.rt:43:37
 sub-kept : tie.Need-sub-kept
 sub-kept c = rw (shl-one-is (c .before .args .row % 8) (omega arith)) (pow-pos (c .before .args .row % 8))
 
--- src/lib.rt:45:18
 cast-map : tie.Need-cast-map
 cast-map c =
     let a = c .before .before .args in
     rw (put-valid (getD (now (a .map)) (a .row / 8) 0) (a .row % 8) (omega arith))
     (record { fits = put-fits (getD (now (a .map)) (a .row / 8) 0) (a .row % 8) 1 (omega arith) (omega arith) })
 
--- src/lib.rt:45:9
 slice-write-map : tie.Need-slice-write-map
 slice-write-map c = search needs
 
--- src/lib.rt:47:18
 cast-map-2 : tie.Need-cast-map-2
 cast-map-2 c =
     let a = c .before .before .args in
     rw (put-null (getD (now (a .map)) (a .row / 8) 0) (a .row % 8) (omega arith))
     (record { fits = omega (arith, put-fits (getD (now (a .map)) (a .row / 8) 0) (a .row % 8) 0 (omega arith) (omega arith)) })
 
--- src/lib.rt:47:9
 slice-write-map-2 : tie.Need-slice-write-map-2
 slice-write-map-2 c = search needs
 
--- src/lib.rt:36:1
 same-length : tie.Need-same-length
 same-length c = search needs
 
--- src/lib.rt:36:1
 returns : tie.Need-returns
 unfolding putBit
 returns c =
     let a = c .before .before .args in
     rw (c .if1 .taken, put-valid (getD (now (a .map)) (a .row / 8) 0) (a .row % 8) (omega arith))
 
--- src/lib.rt:36:1
 same-length-2 : tie.Need-same-length-2
 same-length-2 c = search needs
 
--- src/lib.rt:36:1
 returns-2 : tie.Need-returns-2
 unfolding putBit
 returns-2 c =

@@ -1,23 +1,14 @@
 use Rattle.null_bits.specs.Bits.{validAt}
-use denote.Ref.{now}
-use native.Mathlib.Omega.{arith}
-use borrow.Author.Needs.{needs}
 use Rattle.null_bits.proofs.valid_at.Statement.{statement}
 use Rattle.null_bits.proofs.valid_at.Tie as tie
-use Rattle.null_bits.proofs.valid_at.Reads as reads
-use Rattle.null_bits.proofs.valid_at.Lts as lts
-use Rattle.null_bits.proofs.is_valid.Reads as is-valid-reads
 
--- src/lib.rt:25:9
 is-valid-requires : tie.Need-is-valid-requires
 is-valid-requires c κs = c .before .before .pre (c .if1 .taken)
 
--- src/lib.rt:25:9
 returns : tie.Need-returns
 unfolding validAt
 returns c = rw (c .before .if1 .taken) (c .is-valid .ensures)
 
--- src/lib.rt:20:1
 returns-2 : tie.Need-returns-2
 unfolding validAt
 returns-2 c = rw (c .if1 .left)

@@ -1,7 +1,6 @@
-use mathlib.Core.Path.{_≡_, refl, ap, sym, _∙_}
-use mathlib.Core.List.{List}
-use lib.ListN.{length, getD}
-use Prim.Native.Nat.{ℕ, _+_, _-_, _≤_, _<_, min}
+use mathlib.Core.Path.{_≡_, _∙_}
+use lib.ListN.{length}
+use Prim.Native.Nat.{_-_, _≤_, min}
 use Rattle.order.specs.Order.{Agree}
 use Rattle.order.proofs.Laws.{byte-same, byte-decides, lengths-decide}
 use denote.Ref.{now}
@@ -9,10 +8,6 @@ use native.Mathlib.Omega.{arith}
 use borrow.Author.Needs.{needs}
 use Rattle.order.proofs.by_bytes.Statement.{statement}
 use Rattle.order.proofs.by_bytes.Tie as tie
-use Rattle.order.proofs.by_bytes.Reads as reads
-use Rattle.order.proofs.by_bytes.Lts as lts
-use Rattle.order.proofs.by_word.Reads as by-word-reads
-use Rattle.words.proofs.wide.Reads as wide-reads
 
 abbrev Inv-loop : tie.InvT-loop
 Inv-loop a b n i₀ i = (n ≡ min (length a) (length b)) × (i ≤ n) × Agree a b 0 i
@@ -20,31 +15,24 @@ Inv-loop a b n i₀ i = (n ≡ min (length a) (length b)) × (i ≤ n) × Agree 
 abbrev μ-loop : tie.MeasureT-loop
 μ-loop a b n i₀ i = n - i
 
--- src/lib.rt:85:5
 loop-holds : tie.Need-loop-holds Inv-loop μ-loop
 loop-holds c = (search needs, search needs, λ k h. absurd (omega arith))
 
--- src/lib.rt:86:29
 shared-slice-read-wide : tie.Need-shared-slice-read-wide Inv-loop μ-loop
 shared-slice-read-wide c = search needs
 
--- src/lib.rt:86:13
 wide-requires : tie.Need-wide-requires Inv-loop μ-loop
 wide-requires c κs = search needs
 
--- src/lib.rt:87:29
 shared-slice-read-wide-2 : tie.Need-shared-slice-read-wide-2 Inv-loop μ-loop
 shared-slice-read-wide-2 c = search needs
 
--- src/lib.rt:87:13
 wide-requires-2 : tie.Need-wide-requires-2 Inv-loop μ-loop
 wide-requires-2 c κs = search needs
 
--- src/lib.rt:89:13
 by-word-requires : tie.Need-by-word-requires Inv-loop μ-loop
 by-word-requires c κs = search needs
 
--- src/lib.rt:89:13
 returns : tie.Need-returns Inv-loop μ-loop
 returns c =
     let s = c .before .before .before .before .before .before .before .before .before .before .args in
@@ -52,26 +40,21 @@ returns c =
     c .by-word .ensures
     ∙ byte-decides (now (s .a)) (now (s .b)) (l .i) _ _ (omega arith) (omega arith) (l .inv .2) (c .before .before .before .before .wide .ensures .0) (c .before .before .wide2 .ensures .0) (c .before .if1 .taken)
 
--- src/lib.rt:91:9
 add-i : tie.Need-add-i Inv-loop μ-loop
 add-i c = search needs
 
--- src/lib.rt:85:5
 loop-less : tie.Need-loop-less Inv-loop μ-loop
 loop-less c = search needs
 
--- src/lib.rt:85:5
 loop-again : tie.Need-loop-again Inv-loop μ-loop
 loop-again c =
     let s = c .before .before .before .before .before .before .before .before .before .args in
     let l = c .before .before .before .before .before .before .loop in
     (search needs, search needs, byte-same (now (s .a)) (now (s .b)) (l .i) _ _ (l .inv .2) (c .before .before .before .wide .ensures .0) (c .before .wide2 .ensures .0) (c .if1 .left))
 
--- src/lib.rt:93:5
 by-word-requires-2 : tie.Need-by-word-requires-2 Inv-loop μ-loop
 by-word-requires-2 c κs = search needs
 
--- src/lib.rt:80:1
 returns-2 : tie.Need-returns-2 Inv-loop μ-loop
 returns-2 c =
     let s = c .before .before .before .before .before .args in

@@ -1,7 +1,6 @@
-use mathlib.Core.Path.{_≡_, refl, ap, sym, _∙_}
-use mathlib.Core.List.{List}
-use lib.ListN.{length, getD}
-use Prim.Native.Nat.{ℕ, _+_, _-_, _≤_, _<_, min}
+use mathlib.Core.Path.{_≡_, _∙_}
+use lib.ListN.{length}
+use Prim.Native.Nat.{_-_, _≤_, min}
 use Rattle.order.specs.Order.{Agree}
 use Rattle.order.proofs.Laws.{word-same, word-decides, lengths-decide}
 use denote.Ref.{now}
@@ -9,10 +8,6 @@ use native.Mathlib.Omega.{arith}
 use borrow.Author.Needs.{needs}
 use Rattle.order.proofs.by_words.Statement.{statement}
 use Rattle.order.proofs.by_words.Tie as tie
-use Rattle.order.proofs.by_words.Reads as reads
-use Rattle.order.proofs.by_words.Lts as lts
-use Rattle.order.proofs.by_word.Reads as by-word-reads
-use Rattle.words.proofs.be64.Reads as be64-reads
 
 abbrev Inv-loop : tie.InvT-loop
 Inv-loop a b n at i₀ i = (n ≡ min (length a) (length b)) × (i ≤ n) × Agree a b 0 i
@@ -20,27 +15,21 @@ Inv-loop a b n at i₀ i = (n ≡ min (length a) (length b)) × (i ≤ n) × Agr
 abbrev μ-loop : tie.MeasureT-loop
 μ-loop a b n at i₀ i = n - i
 
--- src/lib.rt:64:5
 loop-holds : tie.Need-loop-holds Inv-loop μ-loop
 loop-holds c = search needs
 
--- src/lib.rt:64:16
 sub-loop : tie.Need-sub-loop Inv-loop μ-loop
 sub-loop c = search needs
 
--- src/lib.rt:65:13
 be64-requires : tie.Need-be64-requires Inv-loop μ-loop
 be64-requires c κs = search needs
 
--- src/lib.rt:66:13
 be64-requires-2 : tie.Need-be64-requires-2 Inv-loop μ-loop
 be64-requires-2 c κs = search needs
 
--- src/lib.rt:68:13
 by-word-requires : tie.Need-by-word-requires Inv-loop μ-loop
 by-word-requires c κs = search needs
 
--- src/lib.rt:68:13
 returns : tie.Need-returns Inv-loop μ-loop
 returns c =
     let s = c .before .before .before .before .before .before .before .before .args in
@@ -48,42 +37,33 @@ returns c =
     c .by-word .ensures
     ∙ word-decides (now (s .a)) (now (s .b)) (l .i) 8 _ _ (λ j. c .before .before .before .before .before .before .before .shared-slice-known .given j .fits) (λ j. c .before .before .before .before .before .before .shared-slice-known2 .given j .fits) (omega arith) (omega arith) (l .inv .2) (c .before .before .before .be64 .ensures) (c .before .before .be642 .ensures) (c .before .if1 .taken)
 
--- src/lib.rt:70:9
 add-i : tie.Need-add-i Inv-loop μ-loop
 add-i c = search needs
 
--- src/lib.rt:64:5
 loop-less : tie.Need-loop-less Inv-loop μ-loop
 loop-less c = search needs
 
--- src/lib.rt:64:5
 loop-again : tie.Need-loop-again Inv-loop μ-loop
 loop-again c =
     let s = c .before .before .before .before .before .before .before .args in
     let l = c .before .before .before .before .loop in
     (search needs, search needs, word-same (now (s .a)) (now (s .b)) (l .i) 8 _ _ (λ j. c .before .before .before .before .before .before .shared-slice-known .given j .fits) (λ j. c .before .before .before .before .before .shared-slice-known2 .given j .fits) (l .inv .2) (c .before .before .be64 .ensures) (c .before .be642 .ensures) (c .if1 .left))
 
--- src/lib.rt:72:28
 sub-be64 : tie.Need-sub-be64 Inv-loop μ-loop
 sub-be64 c = search needs
 
--- src/lib.rt:72:9
 be64-requires-3 : tie.Need-be64-requires-3 Inv-loop μ-loop
 be64-requires-3 c κs = search needs
 
--- src/lib.rt:73:28
 sub-be64-2 : tie.Need-sub-be64-2 Inv-loop μ-loop
 sub-be64-2 c = search needs
 
--- src/lib.rt:73:9
 be64-requires-4 : tie.Need-be64-requires-4 Inv-loop μ-loop
 be64-requires-4 c κs = search needs
 
--- src/lib.rt:75:9
 by-word-requires-2 : tie.Need-by-word-requires-2 Inv-loop μ-loop
 by-word-requires-2 c κs = search needs
 
--- src/lib.rt:75:9
 returns-2 : tie.Need-returns-2 Inv-loop μ-loop
 returns-2 c =
     let s = c .before .before .before .before .before .before .before .before .args in
@@ -91,11 +71,9 @@ returns-2 c =
     c .by-word2 .ensures
     ∙ word-decides (now (s .a)) (now (s .b)) (s .n - 8) 8 _ _ (λ j. c .before .before .before .before .before .before .before .shared-slice-known .given j .fits) (λ j. c .before .before .before .before .before .before .shared-slice-known2 .given j .fits) (omega arith) (omega arith) (λ k h. l .inv .2 k (omega arith)) (c .before .before .before .be643 .ensures) (c .before .before .be644 .ensures) (c .before .if2 .taken)
 
--- src/lib.rt:77:5
 by-word-requires-3 : tie.Need-by-word-requires-3 Inv-loop μ-loop
 by-word-requires-3 c κs = search needs
 
--- src/lib.rt:59:1
 returns-3 : tie.Need-returns-3 Inv-loop μ-loop
 returns-3 c =
     let s = c .before .before .before .before .before .before .before .before .args in

@@ -1,28 +1,20 @@
-use mathlib.Core.Path.{_≡_, _∙_}
+use mathlib.Core.Path.{_∙_}
 use Rattle.order.proofs.Laws.{part-order}
 use denote.Ref.{now}
 use native.Mathlib.Omega.{arith}
 use borrow.Author.Needs.{needs}
 use Rattle.order.proofs.cmp_prefix.Statement.{statement}
 use Rattle.order.proofs.cmp_prefix.Tie as tie
-use Rattle.order.proofs.cmp_prefix.Reads as reads
-use Rattle.order.proofs.cmp_prefix.Lts as lts
-use Rattle.order.proofs.by_word.Reads as by-word-reads
-use Rattle.words.proofs.be32.Reads as be32-reads
 
--- src/lib.rt:155:13
 be32-requires : tie.Need-be32-requires
 be32-requires c κs = search needs
 
--- src/lib.rt:155:32
 be32-requires-2 : tie.Need-be32-requires-2
 be32-requires-2 c κs = search needs
 
--- src/lib.rt:155:5
 by-word-requires : tie.Need-by-word-requires
 by-word-requires c κs = search needs
 
--- src/lib.rt:151:1
 returns : tie.Need-returns
 returns c =
     let s = c .before .before .before .before .before .args in

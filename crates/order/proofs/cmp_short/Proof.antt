@@ -1,31 +1,21 @@
 use Rattle.order.specs.Order.{shortOrder}
-use mathlib.Core.Path.{_≡_, _∙_}
+use mathlib.Core.Path.{_∙_}
 use Rattle.order.proofs.Laws.{twelve-first, twelve-second, twelve-equal}
 use denote.Ref.{now}
 use native.Mathlib.Omega.{arith}
 use borrow.Author.Needs.{needs}
 use Rattle.order.proofs.cmp_short.Statement.{statement}
 use Rattle.order.proofs.cmp_short.Tie as tie
-use Rattle.order.proofs.cmp_short.Reads as reads
-use Rattle.order.proofs.cmp_short.Lts as lts
-use Rattle.order.proofs.by_word.Reads as by-word-reads
-use Rattle.words.proofs.be32.Reads as be32-reads
-use Rattle.words.proofs.be64.Reads as be64-reads
-use Rattle.words.proofs.le32.Reads as le32-reads
 
--- src/lib.rt:151:9
 be64-requires : tie.Need-be64-requires
 be64-requires c κs = search needs
 
--- src/lib.rt:152:9
 be64-requires-2 : tie.Need-be64-requires-2
 be64-requires-2 c κs = search needs
 
--- src/lib.rt:154:9
 by-word-requires : tie.Need-by-word-requires
 by-word-requires c κs = search needs
 
--- src/lib.rt:154:9
 returns : tie.Need-returns
 unfolding shortOrder
 returns c =
@@ -34,19 +24,15 @@ returns c =
     let w = now (s .w) in
     c .by-word .ensures ∙ twelve-first v w (λ j. c .before .before .before .before .before .shared-slice-known .given j .fits) (λ j. c .before .before .before .before .shared-slice-known2 .given j .fits) (omega arith) (omega arith) _ _ (c .before .before .before .be64 .ensures) (c .before .before .be642 .ensures) _ (c .before .if1 .taken)
 
--- src/lib.rt:156:9
 be32-requires : tie.Need-be32-requires
 be32-requires c κs = search needs
 
--- src/lib.rt:157:9
 be32-requires-2 : tie.Need-be32-requires-2
 be32-requires-2 c κs = search needs
 
--- src/lib.rt:159:9
 by-word-requires-2 : tie.Need-by-word-requires-2
 by-word-requires-2 c κs = search needs
 
--- src/lib.rt:159:9
 returns-2 : tie.Need-returns-2
 unfolding shortOrder
 returns-2 c =
@@ -56,19 +42,15 @@ returns-2 c =
     c .by-word2 .ensures
     ∙ twelve-second v w (λ j. c .before .before .before .before .before .before .before .before .shared-slice-known .given j .fits) (λ j. c .before .before .before .before .before .before .before .shared-slice-known2 .given j .fits) (omega arith) (omega arith) _ _ (c .before .before .before .before .before .before .be64 .ensures) (c .before .before .before .before .before .be642 .ensures) _ _ _ (c .before .before .before .be32 .ensures .0) (c .before .before .be322 .ensures .0) (c .before .before .before .before .if1 .left) (c .before .if2 .taken)
 
--- src/lib.rt:161:13
 le32-requires : tie.Need-le32-requires
 le32-requires c κs = search needs
 
--- src/lib.rt:161:32
 le32-requires-2 : tie.Need-le32-requires-2
 le32-requires-2 c κs = search needs
 
--- src/lib.rt:161:5
 by-word-requires-3 : tie.Need-by-word-requires-3
 by-word-requires-3 c κs = search needs
 
--- src/lib.rt:147:1
 returns-3 : tie.Need-returns-3
 unfolding shortOrder
 returns-3 c =

@@ -1,21 +1,17 @@
 use Rattle.order.specs.OrderLaws.{same-is}
 use borrow.Author.Tests.{eq-eqb, eqb-true}
-use mathlib.Core.Path.{_≡_, refl, ap, sym, _∙_}
+use mathlib.Core.Path.{ap, sym, _∙_}
 use mathlib.Core.List.{List}
-use lib.ListN.{length, getD}
-use Prim.Native.Nat.{ℕ, _+_, _-_, _≤_, _<_, min}
+use Prim.Native.Nat.{ℕ, _-_, _≤_}
 use Rattle.order.specs.Order.{Agree}
 use Rattle.words.specs.Words.{wordAt}
-use Rattle.order.specs.OrderLaws.{same-no, same-yes}
+use Rattle.order.specs.OrderLaws.{same-no}
 use Rattle.order.proofs.Laws.{le-same, same-all}
 use denote.Ref.{now}
 use native.Mathlib.Omega.{arith}
 use borrow.Author.Needs.{needs}
 use Rattle.order.proofs.same_words.Statement.{statement}
 use Rattle.order.proofs.same_words.Tie as tie
-use Rattle.order.proofs.same_words.Reads as reads
-use Rattle.order.proofs.same_words.Lts as lts
-use Rattle.words.proofs.le64.Reads as le64-reads
 
 abbrev Inv-loop : tie.InvT-loop
 Inv-loop a b n at i₀ i = (i ≤ n) × Agree a b 0 i
@@ -23,60 +19,47 @@ Inv-loop a b n at i₀ i = (i ≤ n) × Agree a b 0 i
 abbrev μ-loop : tie.MeasureT-loop
 μ-loop a b n at i₀ i = n - i
 
--- src/lib.rt:113:5
 loop-holds : tie.Need-loop-holds Inv-loop μ-loop
 loop-holds c = search needs
 
--- src/lib.rt:113:16
 sub-loop : tie.Need-sub-loop Inv-loop μ-loop
 sub-loop c = search needs
 
--- src/lib.rt:114:12
 le64-requires : tie.Need-le64-requires Inv-loop μ-loop
 le64-requires c κs = search needs
 
--- src/lib.rt:114:33
 le64-requires-2 : tie.Need-le64-requires-2 Inv-loop μ-loop
 le64-requires-2 c κs = search needs
 
--- src/lib.rt:115:13
 returns : tie.Need-returns Inv-loop μ-loop
 returns c =
     let l = c .before .before .before .before .loop in
     sym (same-no _ _ (λ e. c .if1 .taken (c .before .before .le64 .ensures ∙ ap (λ (x : List ℕ). wordAt x (l .i) 8) e ∙ sym (c .before .le642 .ensures))))
 
--- src/lib.rt:117:9
 add-i : tie.Need-add-i Inv-loop μ-loop
 add-i c = search needs
 
--- src/lib.rt:113:5
 loop-less : tie.Need-loop-less Inv-loop μ-loop
 loop-less c = search needs
 
--- src/lib.rt:113:5
 loop-again : tie.Need-loop-again Inv-loop μ-loop
 loop-again c =
     let s = c .before .before .before .before .before .before .before .args in
     let l = c .before .before .before .before .loop in
     (search needs, le-same (now (s .a)) (now (s .b)) (l .i) 8 _ _ (λ j. c .before .before .before .before .before .before .shared-slice-known .given j .fits) (λ j. c .before .before .before .before .before .shared-slice-known2 .given j .fits) (l .inv .1) (c .before .before .le64 .ensures) (c .before .le642 .ensures) (c .if1 .left))
 
--- src/lib.rt:119:20
 sub-le64 : tie.Need-sub-le64 Inv-loop μ-loop
 sub-le64 c = search needs
 
--- src/lib.rt:119:5
 le64-requires-3 : tie.Need-le64-requires-3 Inv-loop μ-loop
 le64-requires-3 c κs = search needs
 
--- src/lib.rt:119:45
 sub-le64-2 : tie.Need-sub-le64-2 Inv-loop μ-loop
 sub-le64-2 c = search needs
 
--- src/lib.rt:119:30
 le64-requires-4 : tie.Need-le64-requires-4 Inv-loop μ-loop
 le64-requires-4 c κs = search needs
 
--- src/lib.rt:108:1
 returns-2 : tie.Need-returns-2 Inv-loop μ-loop
 returns-2 c =
     let s = c .before .before .before .before .before .before .args in

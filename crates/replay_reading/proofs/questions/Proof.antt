@@ -2,12 +2,6 @@ use borrow.Author.Needs.{needs}
 use Prim.Native.Nat.{_≤_, _-_}
 use Rattle.replay_reading.proofs.questions.Statement.{statement}
 use Rattle.replay_reading.proofs.questions.Tie as tie
-use Rattle.replay_reading.proofs.questions.Reads as reads
-use Rattle.replay_reading.proofs.questions.Lts as lts
-use Rattle.io.proofs.read_full.Reads as read-full-reads
-use Rattle.replay_reading.proofs.ask.Reads as ask-reads
-use Rattle.replay_reading.proofs.counted.Reads as counted-reads
-use Rattle.replay_reading.proofs.torn.Reads as torn-reads
 
 abbrev Inv-loop : tie.InvT-loop
 Inv-loop fd views bytes starts lens nulls c views2 bytes2 starts2 lens2 nulls2 d n t₀ k₀ t k = k ≤ n
@@ -15,47 +9,36 @@ Inv-loop fd views bytes starts lens nulls c views2 bytes2 starts2 lens2 nulls2 d
 abbrev μ-loop : tie.MeasureT-loop
 μ-loop fd views bytes starts lens nulls c views2 bytes2 starts2 lens2 nulls2 d n t₀ k₀ t k = n - k
 
--- src/main.rt:255:5
 loop-holds : tie.Need-loop-holds Inv-loop μ-loop
 loop-holds c = search needs
 
--- src/main.rt:257:30
 slice-aggregate-read-full : tie.Need-slice-aggregate-read-full Inv-loop μ-loop
 slice-aggregate-read-full c = search needs
 
--- src/main.rt:257:12
 read-full-requires : tie.Need-read-full-requires Inv-loop μ-loop
 read-full-requires c κs = search needs
 
--- src/main.rt:258:13
 torn-requires : tie.Need-torn-requires Inv-loop μ-loop
 torn-requires c κs = search needs
 
--- src/main.rt:258:13
 returns : tie.Need-returns Inv-loop μ-loop
 returns c = search needs
 
--- src/main.rt:260:13
 ask-requires : tie.Need-ask-requires Inv-loop μ-loop
 ask-requires c κs = search needs
 
--- src/main.rt:275:9
 counted-requires : tie.Need-counted-requires Inv-loop μ-loop
 counted-requires c κs = search needs
 
--- src/main.rt:276:9
 add-k : tie.Need-add-k Inv-loop μ-loop
 add-k c = search needs
 
--- src/main.rt:255:5
 loop-less : tie.Need-loop-less Inv-loop μ-loop
 loop-less c = search needs
 
--- src/main.rt:255:5
 loop-again : tie.Need-loop-again Inv-loop μ-loop
 loop-again c = search needs
 
--- src/main.rt:236:1
 returns-2 : tie.Need-returns-2 Inv-loop μ-loop
 returns-2 c = search needs
 

@@ -2,9 +2,6 @@ use borrow.Author.Needs.{needs}
 use Prim.Native.Nat.{_≤_, _-_}
 use Rattle.replay_reading.proofs.replay.Statement.{statement}
 use Rattle.replay_reading.proofs.replay.Tie as tie
-use Rattle.replay_reading.proofs.replay.Reads as reads
-use Rattle.replay_reading.proofs.replay.Lts as lts
-use Rattle.replay_reading.proofs.turn.Reads as turn-reads
 
 abbrev Inv-loop : tie.InvT-loop
 Inv-loop fd t₀ k₀ t k = k ≤ 1000000
@@ -12,31 +9,24 @@ Inv-loop fd t₀ k₀ t k = k ≤ 1000000
 abbrev μ-loop : tie.MeasureT-loop
 μ-loop fd t₀ k₀ t k = 1000000 - k
 
--- src/main.rt:452:5
 loop-holds : tie.Need-loop-holds Inv-loop μ-loop
 loop-holds c = search needs
 
--- src/main.rt:453:9
 turn-requires : tie.Need-turn-requires Inv-loop μ-loop
 turn-requires c κs = search needs
 
--- src/main.rt:455:13
 returns : tie.Need-returns Inv-loop μ-loop
 returns c = search needs
 
--- src/main.rt:457:9
 add-k : tie.Need-add-k Inv-loop μ-loop
 add-k c = search needs
 
--- src/main.rt:452:5
 loop-less : tie.Need-loop-less Inv-loop μ-loop
 loop-less c = search needs
 
--- src/main.rt:452:5
 loop-again : tie.Need-loop-again Inv-loop μ-loop
 loop-again c = search needs
 
--- src/main.rt:442:1
 returns-2 : tie.Need-returns-2 Inv-loop μ-loop
 returns-2 c = search needs
 

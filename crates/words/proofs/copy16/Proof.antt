@@ -4,40 +4,28 @@ use Rattle.words.specs.ListLaws.{put-two}
 use borrow.Author.Needs.{needs}
 use Rattle.words.proofs.copy16.Statement.{statement}
 use Rattle.words.proofs.copy16.Tie as tie
-use Rattle.words.proofs.copy16.Reads as reads
-use Rattle.words.proofs.copy16.Lts as lts
-use Rattle.words.proofs.le64.Reads as le64-reads
-use Rattle.words.proofs.put64.Reads as put64-reads
 
--- src/lib.rt:75:9
 le64-requires : tie.Need-le64-requires
 le64-requires c κs = search needs
 
--- src/lib.rt:76:23
 add-le64 : tie.Need-add-le64
 add-le64 c = search needs
 
--- src/lib.rt:76:9
 le64-requires-2 : tie.Need-le64-requires-2
 le64-requires-2 c κs = search needs
 
--- src/lib.rt:77:5
 put64-requires : tie.Need-put64-requires
 put64-requires c κs = search needs
 
--- src/lib.rt:78:16
 add-put64 : tie.Need-add-put64
 add-put64 c = search needs
 
--- src/lib.rt:78:5
 put64-requires-2 : tie.Need-put64-requires-2
 put64-requires-2 c κs = search needs
 
--- src/lib.rt:71:1
 same-length : tie.Need-same-length
 same-length c = search needs
 
--- src/lib.rt:71:1
 returns : tie.Need-returns
 returns c =
     let read = c .before .before .before .before .before .before .before .before in

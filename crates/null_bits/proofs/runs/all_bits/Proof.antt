@@ -1,17 +1,11 @@
 use Rattle.null_bits.proofs.ByteLaws.{all-valid, all-null}
-use denote.Ref.{now}
-use native.Mathlib.Omega.{arith}
 use borrow.Author.Needs.{needs}
 use Rattle.null_bits.proofs.runs.all_bits.Statement.{statement}
 use Rattle.null_bits.proofs.runs.all_bits.Tie as tie
-use Rattle.null_bits.proofs.runs.all_bits.Reads as reads
-use Rattle.null_bits.proofs.runs.all_bits.Lts as lts
 
--- src/runs.rt:47:9
 returns : tie.Need-returns
 returns c = (search needs, λ j h. rw (c .if1 .taken) (all-valid j h))
 
--- src/runs.rt:43:1
 returns-2 : tie.Need-returns-2
 returns-2 c = (search needs, λ j h. rw (c .if1 .left) (all-null j))
 

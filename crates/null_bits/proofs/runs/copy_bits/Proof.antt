@@ -1,21 +1,15 @@
 use mathlib.Core.Path.{ap}
 use Rattle.null_bits.proofs.ByteLaws.{next-byte, run-rest}
-use Rattle.null_bits.specs.Runs.{putBits, digit}
+use Rattle.null_bits.specs.Runs.{putBits}
 use Rattle.null_bits.specs.Bits.{isValid}
 use lib.ListN.{length}
 use native.Mathlib.Nat.{add-assoc}
-use Prim.Native.Nat.{ℕ, _≤_, _-_, _+_, _<_}
-use mathlib.Core.Path.{_≡_, refl, sym, _∙_}
+use Prim.Native.Nat.{_≤_, _-_, _+_}
+use mathlib.Core.Path.{_≡_, refl, _∙_}
 use denote.Ref.{now}
-use native.Mathlib.Omega.{arith}
 use borrow.Author.Needs.{needs}
 use Rattle.null_bits.proofs.runs.copy_bits.Statement.{statement}
 use Rattle.null_bits.proofs.runs.copy_bits.Tie as tie
-use Rattle.null_bits.proofs.runs.copy_bits.Reads as reads
-use Rattle.null_bits.proofs.runs.copy_bits.Lts as lts
-use Rattle.null_bits.proofs.runs.byte_at.Reads as byte-at-reads
-use Rattle.null_bits.proofs.runs.copy_few.Reads as copy-few-reads
-use Rattle.null_bits.proofs.runs.put_byte.Reads as put-byte-reads
 
 abbrev Inv-loop : tie.InvT-loop
 Inv-loop map₀ first src from rows k₀ map k = (k ≤ rows) × (length map ≡ length map₀) × (map ≡ putBits map₀ first (λ j. isValid src (from + j)) k)
@@ -23,40 +17,31 @@ Inv-loop map₀ first src from rows k₀ map k = (k ≤ rows) × (length map ≡
 abbrev μ-loop : tie.MeasureT-loop
 μ-loop map₀ first src from rows k₀ map k = rows - k
 
--- src/runs.rt:94:5
 loop-holds : tie.Need-loop-holds Inv-loop μ-loop
 unfolding putBits
 loop-holds c = (search needs, refl, refl)
 
--- src/runs.rt:94:16
 sub-loop : tie.Need-sub-loop Inv-loop μ-loop
 sub-loop c = search needs
 
--- src/runs.rt:95:23
 add-put-byte : tie.Need-add-put-byte Inv-loop μ-loop
 add-put-byte c = search needs
 
--- src/runs.rt:95:47
 add-byte-at : tie.Need-add-byte-at Inv-loop μ-loop
 add-byte-at c = search needs
 
--- src/runs.rt:95:34
 byte-at-requires : tie.Need-byte-at-requires Inv-loop μ-loop
 byte-at-requires c κs = search needs
 
--- src/runs.rt:95:9
 put-byte-requires : tie.Need-put-byte-requires Inv-loop μ-loop
 put-byte-requires c κs = search needs
 
--- src/runs.rt:96:9
 add-k : tie.Need-add-k Inv-loop μ-loop
 add-k c = search needs
 
--- src/runs.rt:94:5
 loop-less : tie.Need-loop-less Inv-loop μ-loop
 loop-less c = search needs
 
--- src/runs.rt:94:5
 loop-again : tie.Need-loop-again Inv-loop μ-loop
 loop-again c =
     let s = c .before .before .before .before .before .before .before .before .before .args in
@@ -67,27 +52,21 @@ loop-again c =
           (λ j h. c .before .before .before .byte-at .ensures .1 j h ∙ ap (isValid (now (s .src))) (add-assoc (s .from) (l .k) j)),
     )
 
--- src/runs.rt:98:19
 add-copy-few : tie.Need-add-copy-few Inv-loop μ-loop
 add-copy-few c = search needs
 
--- src/runs.rt:98:35
 add-copy-few-2 : tie.Need-add-copy-few-2 Inv-loop μ-loop
 add-copy-few-2 c = search needs
 
--- src/runs.rt:98:45
 sub-copy-few : tie.Need-sub-copy-few Inv-loop μ-loop
 sub-copy-few c = search needs
 
--- src/runs.rt:98:5
 copy-few-requires : tie.Need-copy-few-requires Inv-loop μ-loop
 copy-few-requires c κs = search needs
 
--- src/runs.rt:89:1
 same-length : tie.Need-same-length Inv-loop μ-loop
 same-length c = search needs
 
--- src/runs.rt:89:1
 returns : tie.Need-returns Inv-loop μ-loop
 returns c =
     let s = c .before .before .before .before .before .before .before .before .args in

@@ -1,38 +1,26 @@
 use mathlib.Core.Path.{_∙_}
 use Rattle.null_bits.specs.RunLaws.{column-map, column-none}
-use denote.Ref.{now}
-use native.Mathlib.Omega.{arith}
 use borrow.Author.Needs.{needs}
 use Rattle.null_bits.proofs.runs.copy_column.Statement.{statement}
 use Rattle.null_bits.proofs.runs.copy_column.Tie as tie
-use Rattle.null_bits.proofs.runs.copy_column.Reads as reads
-use Rattle.null_bits.proofs.runs.copy_column.Lts as lts
-use Rattle.null_bits.proofs.runs.copy_bits.Reads as copy-bits-reads
-use Rattle.null_bits.proofs.runs.put_run.Reads as put-run-reads
 
--- src/runs.rt:38:9
 copy-bits-requires : tie.Need-copy-bits-requires
 copy-bits-requires c κs =
     let pre = c .before .before .before .before .pre in
     (pre .0, pre .1, pre .2 (c .before .if1 .taken), pre .3)
 
--- src/runs.rt:40:9
 put-run-requires : tie.Need-put-run-requires
 put-run-requires c κs = search needs
 
--- src/runs.rt:33:1
 same-length : tie.Need-same-length
 same-length c = search needs
 
--- src/runs.rt:33:1
 returns : tie.Need-returns
 returns c = c .before .before .copy-bits .ensures ∙ column-map _ _ _ _ _ _ (c .before .before .before .before .if1 .taken)
 
--- src/runs.rt:33:1
 same-length-2 : tie.Need-same-length-2
 same-length-2 c = search needs
 
--- src/runs.rt:33:1
 returns-2 : tie.Need-returns-2
 returns-2 c = c .before .before .put-run .ensures ∙ column-none _ _ _ _ _ _ (c .before .before .before .before .if1 .left)
 

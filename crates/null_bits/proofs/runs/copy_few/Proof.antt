@@ -3,15 +3,10 @@ use lib.ListN.{length}
 use native.Mathlib.Numerals.{add-one}
 use Prim.Native.Nat.{_≤_, _-_}
 use mathlib.Core.Path.{_≡_, refl, _∙_}
-use denote.Ref.{now}
 use native.Mathlib.Omega.{arith}
 use borrow.Author.Needs.{needs}
 use Rattle.null_bits.proofs.runs.copy_few.Statement.{statement}
 use Rattle.null_bits.proofs.runs.copy_few.Tie as tie
-use Rattle.null_bits.proofs.runs.copy_few.Reads as reads
-use Rattle.null_bits.proofs.runs.copy_few.Lts as lts
-use Rattle.null_bits.proofs.is_valid.Reads as is-valid-reads
-use Rattle.null_bits.proofs.put_bit.Reads as put-bit-reads
 
 abbrev Inv-loop : tie.InvT-loop
 Inv-loop map₀ first src from rows k₀ map k = (k ≤ rows) × (length map ≡ length map₀) × (map ≡ copyBits map₀ first src from k)
@@ -19,47 +14,37 @@ Inv-loop map₀ first src from rows k₀ map k = (k ≤ rows) × (length map ≡
 abbrev μ-loop : tie.MeasureT-loop
 μ-loop map₀ first src from rows k₀ map k = rows - k
 
--- src/runs.rt:25:5
 loop-holds : tie.Need-loop-holds Inv-loop μ-loop
 unfolding putBits
 loop-holds c = (omega arith, refl, refl)
 
--- src/runs.rt:26:29
 add-put-bit : tie.Need-add-put-bit Inv-loop μ-loop
 add-put-bit c = search needs
 
--- src/runs.rt:26:61
 add-is-valid : tie.Need-add-is-valid Inv-loop μ-loop
 add-is-valid c = search needs
 
--- src/runs.rt:26:40
 is-valid-requires : tie.Need-is-valid-requires Inv-loop μ-loop
 is-valid-requires c κs = search needs
 
--- src/runs.rt:26:9
 put-bit-requires : tie.Need-put-bit-requires Inv-loop μ-loop
 put-bit-requires c κs = search needs
 
--- src/runs.rt:27:9
 add-k : tie.Need-add-k Inv-loop μ-loop
 add-k c = search needs
 
--- src/runs.rt:25:5
 loop-less : tie.Need-loop-less Inv-loop μ-loop
 loop-less c = search needs
 
--- src/runs.rt:25:5
 loop-again : tie.Need-loop-again Inv-loop μ-loop
 unfolding putBits
 loop-again c =
     let l = c .before .before .before .before .before .before .loop in
     (omega arith, c .before .before .put-bit .kept .0 ∙ l .inv .1, rw (add-one (l .k)) (c .before .before .put-bit .ensures ∙ rw (l .inv .2, c .before .before .before .is-valid .ensures)))
 
--- src/runs.rt:20:1
 same-length : tie.Need-same-length Inv-loop μ-loop
 same-length c = search needs
 
--- src/runs.rt:20:1
 returns : tie.Need-returns Inv-loop μ-loop
 returns c =
     let e : c .before .loop .k ≡ c .before .before .before .before .args .rows = omega arith in

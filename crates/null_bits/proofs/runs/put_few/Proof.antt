@@ -7,9 +7,6 @@ use lib.ListN.{length}
 use Rattle.null_bits.specs.Runs.{putBits, putRun}
 use Rattle.null_bits.proofs.runs.put_few.Statement.{statement}
 use Rattle.null_bits.proofs.runs.put_few.Tie as tie
-use Rattle.null_bits.proofs.runs.put_few.Reads as reads
-use Rattle.null_bits.proofs.runs.put_few.Lts as lts
-use Rattle.null_bits.proofs.put_bit.Reads as put-bit-reads
 
 abbrev Inv-loop : tie.InvT-loop
 Inv-loop map₀ first rows valid k₀ map k = (k ≤ rows) × (length map ≡ length map₀) × (map ≡ putRun map₀ first k valid)
@@ -17,39 +14,31 @@ Inv-loop map₀ first rows valid k₀ map k = (k ≤ rows) × (length map ≡ le
 abbrev μ-loop : tie.MeasureT-loop
 μ-loop map₀ first rows valid k₀ map k = rows - k
 
--- src/runs.rt:59:5
 loop-holds : tie.Need-loop-holds Inv-loop μ-loop
 unfolding putBits
 loop-holds c = (omega arith, refl, refl)
 
--- src/runs.rt:60:29
 add-put-bit : tie.Need-add-put-bit Inv-loop μ-loop
 add-put-bit c = search needs
 
--- src/runs.rt:60:9
 put-bit-requires : tie.Need-put-bit-requires Inv-loop μ-loop
 put-bit-requires c κs = search needs
 
--- src/runs.rt:61:9
 add-k : tie.Need-add-k Inv-loop μ-loop
 add-k c = search needs
 
--- src/runs.rt:59:5
 loop-less : tie.Need-loop-less Inv-loop μ-loop
 loop-less c = search needs
 
--- src/runs.rt:59:5
 loop-again : tie.Need-loop-again Inv-loop μ-loop
 unfolding putBits
 loop-again c =
     let l = c .before .before .before .before .before .loop in
     (omega arith, c .before .before .put-bit .kept .0 ∙ l .inv .1, rw (add-one (l .k)) (c .before .before .put-bit .ensures ∙ rw (l .inv .2)))
 
--- src/runs.rt:54:1
 same-length : tie.Need-same-length Inv-loop μ-loop
 same-length c = search needs
 
--- src/runs.rt:54:1
 returns : tie.Need-returns Inv-loop μ-loop
 returns c =
     let e : c .before .loop .k ≡ c .before .before .before .args .rows = omega arith in

@@ -1,20 +1,12 @@
 use Rattle.null_bits.proofs.ByteLaws.{next-byte, run-rest}
 use Rattle.null_bits.specs.Runs.{putBits, digit}
-use Rattle.null_bits.specs.Bits.{isValid}
 use lib.ListN.{length}
-use native.Mathlib.Nat.{add-assoc}
-use Prim.Native.Nat.{ℕ, _≤_, _-_, _+_, _<_}
-use mathlib.Core.Path.{_≡_, refl, sym, _∙_}
+use Prim.Native.Nat.{ℕ, _≤_, _-_, _<_}
+use mathlib.Core.Path.{_≡_, refl, _∙_}
 use denote.Ref.{now}
-use native.Mathlib.Omega.{arith}
 use borrow.Author.Needs.{needs}
 use Rattle.null_bits.proofs.runs.put_run.Statement.{statement}
 use Rattle.null_bits.proofs.runs.put_run.Tie as tie
-use Rattle.null_bits.proofs.runs.put_run.Reads as reads
-use Rattle.null_bits.proofs.runs.put_run.Lts as lts
-use Rattle.null_bits.proofs.runs.all_bits.Reads as all-bits-reads
-use Rattle.null_bits.proofs.runs.put_byte.Reads as put-byte-reads
-use Rattle.null_bits.proofs.runs.put_few.Reads as put-few-reads
 
 abbrev Inv-loop : tie.InvT-loop
 Inv-loop map₀ first rows valid x k₀ map k = (x < 256) × ((j : ℕ) → j < 8 → digit x j ≡ valid) × (k ≤ rows) × (length map ≡ length map₀) × (map ≡ putBits map₀ first (λ j. valid) k)
@@ -22,59 +14,46 @@ Inv-loop map₀ first rows valid x k₀ map k = (x < 256) × ((j : ℕ) → j < 
 abbrev μ-loop : tie.MeasureT-loop
 μ-loop map₀ first rows valid x k₀ map k = rows - k
 
--- src/runs.rt:68:9
 all-bits-requires : tie.Need-all-bits-requires Inv-loop μ-loop
 all-bits-requires c κs = search needs
 
--- src/runs.rt:70:5
 loop-holds : tie.Need-loop-holds Inv-loop μ-loop
 unfolding putBits
 loop-holds c = (c .all-bits .ensures .0, c .all-bits .ensures .1, search needs, refl, refl)
 
--- src/runs.rt:70:16
 sub-loop : tie.Need-sub-loop Inv-loop μ-loop
 sub-loop c = search needs
 
--- src/runs.rt:71:23
 add-put-byte : tie.Need-add-put-byte Inv-loop μ-loop
 add-put-byte c = search needs
 
--- src/runs.rt:71:9
 put-byte-requires : tie.Need-put-byte-requires Inv-loop μ-loop
 put-byte-requires c κs = search needs
 
--- src/runs.rt:72:9
 add-k : tie.Need-add-k Inv-loop μ-loop
 add-k c = search needs
 
--- src/runs.rt:70:5
 loop-less : tie.Need-loop-less Inv-loop μ-loop
 loop-less c = search needs
 
--- src/runs.rt:70:5
 loop-again : tie.Need-loop-again Inv-loop μ-loop
 loop-again c =
     let s = c .before .before .before .before .before .before .before .before .args in
     let l = c .before .before .before .before .before .loop in
     (l .inv .0, l .inv .1, search needs, c .before .before .put-byte .kept .0 ∙ l .inv .3, next-byte (now (s .map)) (l .map) _ (s .first) (l .k) _ (λ j. s .valid) (l .inv .4) (c .before .before .put-byte .ensures) (l .inv .1))
 
--- src/runs.rt:74:18
 add-put-few : tie.Need-add-put-few Inv-loop μ-loop
 add-put-few c = search needs
 
--- src/runs.rt:74:29
 sub-put-few : tie.Need-sub-put-few Inv-loop μ-loop
 sub-put-few c = search needs
 
--- src/runs.rt:74:5
 put-few-requires : tie.Need-put-few-requires Inv-loop μ-loop
 put-few-requires c κs = search needs
 
--- src/runs.rt:64:1
 same-length : tie.Need-same-length Inv-loop μ-loop
 same-length c = search needs
 
--- src/runs.rt:64:1
 returns : tie.Need-returns Inv-loop μ-loop
 returns c =
     let s = c .before .before .before .before .before .before .before .before .args in

@@ -3,27 +3,19 @@ use native.Mathlib.Omega.{arith}
 use borrow.Author.Needs.{needs}
 use Rattle.replay_reading.proofs.input.fill.Statement.{statement}
 use Rattle.replay_reading.proofs.input.fill.Tie as tie
-use Rattle.replay_reading.proofs.input.fill.Reads as reads
-use Rattle.replay_reading.proofs.input.fill.Lts as lts
-use Rattle.io.proofs.read_full.Reads as read-full-reads
 
--- src/input.rt:60:23
 slice-relend-prefix-read-full : tie.Need-slice-relend-prefix-read-full
 slice-relend-prefix-read-full c = search needs
 
--- src/input.rt:60:23
 slice-aggregate-read-full : tie.Need-slice-aggregate-read-full
 slice-aggregate-read-full c = simp length-take (omega arith)
 
--- src/input.rt:60:5
 read-full-requires : tie.Need-read-full-requires
 read-full-requires c κs = search needs
 
--- src/input.rt:57:1
 same-length : tie.Need-same-length
 same-length c = search needs
 
--- src/input.rt:57:1
 returns : tie.Need-returns
 returns c = search needs
 

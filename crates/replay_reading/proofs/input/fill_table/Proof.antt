@@ -4,10 +4,6 @@ use Prim.Native.Nat.{_≤_, _-_}
 use lib.ListN.{length}
 use Rattle.replay_reading.proofs.input.fill_table.Statement.{statement}
 use Rattle.replay_reading.proofs.input.fill_table.Tie as tie
-use Rattle.replay_reading.proofs.input.fill_table.Reads as reads
-use Rattle.replay_reading.proofs.input.fill_table.Lts as lts
-use Rattle.io.proofs.read_full.Reads as read-full-reads
-use Rattle.replay_reading.proofs.input.word.Reads as word-reads
 
 abbrev Inv-loop : tie.InvT-loop
 Inv-loop fd starts₀ lens₀ n k₀ starts lens k = (k ≤ n) × (length starts ≡ length starts₀) × (length lens ≡ length lens₀)
@@ -15,83 +11,63 @@ Inv-loop fd starts₀ lens₀ n k₀ starts lens k = (k ≤ n) × (length starts
 abbrev μ-loop : tie.MeasureT-loop
 μ-loop fd starts₀ lens₀ n k₀ starts lens k = n - k
 
--- src/input.rt:68:5
 loop-holds : tie.Need-loop-holds Inv-loop μ-loop
 loop-holds c = search needs
 
--- src/input.rt:70:30
 slice-aggregate-read-full : tie.Need-slice-aggregate-read-full Inv-loop μ-loop
 slice-aggregate-read-full c = search needs
 
--- src/input.rt:70:12
 read-full-requires : tie.Need-read-full-requires Inv-loop μ-loop
 read-full-requires c κs = search needs
 
--- src/input.rt:71:13
 same-length : tie.Need-same-length Inv-loop μ-loop
 same-length c = search needs
 
--- src/input.rt:71:13
 same-length-2 : tie.Need-same-length-2 Inv-loop μ-loop
 same-length-2 c = search needs
 
--- src/input.rt:71:13
 returns : tie.Need-returns Inv-loop μ-loop
 returns c = search needs
 
--- src/input.rt:73:26
 slice-aggregate-word : tie.Need-slice-aggregate-word Inv-loop μ-loop
 slice-aggregate-word c = search needs
 
--- src/input.rt:73:21
 word-requires : tie.Need-word-requires Inv-loop μ-loop
 word-requires c κs = search needs
 
--- src/input.rt:73:9
 mul-starts : tie.Need-mul-starts Inv-loop μ-loop
 mul-starts c = search needs
 
--- src/input.rt:73:9
 slice-write-starts : tie.Need-slice-write-starts Inv-loop μ-loop
 slice-write-starts c = search needs
 
--- src/input.rt:74:24
 slice-aggregate-word-2 : tie.Need-slice-aggregate-word-2 Inv-loop μ-loop
 slice-aggregate-word-2 c = search needs
 
--- src/input.rt:74:19
 word-requires-2 : tie.Need-word-requires-2 Inv-loop μ-loop
 word-requires-2 c κs = search needs
 
--- src/input.rt:74:9
 mul-lens : tie.Need-mul-lens Inv-loop μ-loop
 mul-lens c = search needs
 
--- src/input.rt:74:9
 slice-write-lens : tie.Need-slice-write-lens Inv-loop μ-loop
 slice-write-lens c = search needs
 
--- src/input.rt:75:9
 add-k : tie.Need-add-k Inv-loop μ-loop
 add-k c = search needs
 
--- src/input.rt:68:5
 loop-less : tie.Need-loop-less Inv-loop μ-loop
 loop-less c = search needs
 
--- src/input.rt:68:5
 loop-again : tie.Need-loop-again Inv-loop μ-loop
 loop-again c = search needs
 
--- src/input.rt:64:1
 same-length-3 : tie.Need-same-length-3 Inv-loop μ-loop
 same-length-3 c = search needs
 
--- src/input.rt:64:1
 same-length-4 : tie.Need-same-length-4 Inv-loop μ-loop
 same-length-4 c = search needs
 
--- src/input.rt:64:1
 returns-2 : tie.Need-returns-2 Inv-loop μ-loop
 returns-2 c = search needs
 

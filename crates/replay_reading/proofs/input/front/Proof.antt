@@ -3,18 +3,13 @@ use native.Mathlib.Omega.{arith}
 use borrow.Author.Needs.{needs}
 use Rattle.replay_reading.proofs.input.front.Statement.{statement}
 use Rattle.replay_reading.proofs.input.front.Tie as tie
-use Rattle.replay_reading.proofs.input.front.Reads as reads
-use Rattle.replay_reading.proofs.input.front.Lts as lts
 
--- src/input.rt:80:9
 returns : tie.Need-returns
 returns c = search needs
 
--- src/input.rt:82:5
 slice-aggregate-result : tie.Need-slice-aggregate-result
 slice-aggregate-result c = simp length-take (omega arith)
 
--- src/input.rt:78:1
 returns-2 : tie.Need-returns-2
 returns-2 c = search needs
 

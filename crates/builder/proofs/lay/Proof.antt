@@ -1,0 +1,27 @@
+use Rattle.copy.specs.OverLaws.{tail-paste}
+use denote.Ref.{now}
+use borrow.Author.Needs.{needs}
+use Rattle.builder.proofs.lay.Statement.{statement}
+use Rattle.builder.proofs.lay.Tie as tie
+
+sub-copy : tie.Need-sub-copy
+sub-copy c = search needs
+
+part-copy-start : tie.Need-part-copy-start
+part-copy-start c = search needs
+
+part-copy-end : tie.Need-part-copy-end
+part-copy-end c = search needs
+
+copy-requires : tie.Need-copy-requires
+copy-requires c κs = search needs
+
+same-length : tie.Need-same-length
+same-length c = search needs
+
+returns : tie.Need-returns
+returns c = tail-paste (c .before .before .before .before .before .before .args .at) (now (c .before .before .before .before .before .before .args .bytes)) _ (now (c .before .before .before .before .before .before .args .x)) (c .before .before .copy .ensures)
+
+pub lay-spec : {M : Type 1} → statement M
+lay-spec =
+    tie.close (tie.spec sub-copy part-copy-start part-copy-end copy-requires same-length returns)

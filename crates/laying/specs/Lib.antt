@@ -1,0 +1,4 @@
+pub mod Written
+pub mod WrittenLaws
+pub mod Rooms
+pub mod RoomLaws

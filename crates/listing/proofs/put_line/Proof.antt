@@ -1,0 +1,27 @@
+use Rattle.listing.specs.Laws.{put-put, decimal-fits, line-fits}
+use Rattle.listing.specs.Text.{numberLine}
+use denote.Ref.{now}
+use native.Mathlib.Omega.{arith}
+use borrow.Author.Needs.{needs}
+use Rattle.listing.proofs.put_line.Statement.{statement}
+use Rattle.listing.proofs.put_line.Tie as tie
+
+put-bytes-requires : tie.Need-put-bytes-requires
+put-bytes-requires c κs = search needs
+
+put-number-requires : tie.Need-put-number-requires
+put-number-requires c κs = omega (arith, decimal-fits (c .before .before .before .before .before .before .before .args .n) (omega (arith, c .before .before .before .before .before .before .before .fits .n)), c .before .before .before .put-bytes .ensures .ends, c .before .before .before .put-bytes .ensures .same, c .before .before .before .before .before .before .before .pre)
+
+put-requires : tie.Need-put-requires
+put-requires c κs = omega (arith, decimal-fits (c .before .before .before .before .before .before .before .before .before .before .before .args .n) (omega (arith, c .before .before .before .before .before .before .before .before .before .before .before .fits .n)), c .before .before .before .before .before .before .before .put-bytes .ensures .ends, c .before .before .before .before .before .before .before .put-bytes .ensures .same, c .before .before .before .put-number .ensures .ends, c .before .before .before .put-number .ensures .same, c .before .before .before .before .before .before .before .before .before .before .before .pre)
+
+same-length : tie.Need-same-length
+same-length c = search needs
+
+returns : tie.Need-returns
+unfolding numberLine
+returns c = let p = put-put (c .before .before .before .before .before .before .before .before .before .before .put-bytes .ensures) (put-put (c .before .before .before .before .before .before .put-number .ensures) (c .before .before .put .ensures)) in (p, omega (arith, p .ends, line-fits (now (c .before .before .before .before .before .before .before .before .before .before .before .before .before .before .args .name)) (c .before .before .before .before .before .before .before .before .before .before .before .before .before .before .args .n) (omega (arith, c .before .before .before .before .before .before .before .before .before .before .before .before .before .before .fits .n))))
+
+pub put-line-spec : {M : Type 1} → statement M
+put-line-spec =
+    tie.close (tie.spec put-bytes-requires put-number-requires put-requires same-length returns)

@@ -1,0 +1,6 @@
+pub mod Lines
+pub mod LineLaws
+pub mod Items
+pub mod ItemLaws
+pub mod Adding
+pub mod AddLaws

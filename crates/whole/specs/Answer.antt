@@ -1,0 +1,95 @@
+-- The program's answer: the bytes that it writes, of the bytes that it reads. Assumes nothing.
+use mathlib.Core.Bool.{Bool, true, false}
+use mathlib.Core.List.{List, [], _∷_, _++_, map}
+use Prim.Native.Nat.{ℕ, zero, suc, _+_, _-_}
+use lib.Dec.{leb, ltb, eqb}
+use lib.ListN.{length, take, drop}
+use Rattle.basis.specs.Pick.{pick}
+use Rattle.views.specs.View.{isShort}
+use Rattle.column.specs.declared.Column.{Column}
+use Rattle.column.specs.Lent.{Lent}
+use Rattle.column.specs.Meaning.{validAt}
+use Rattle.reading.specs.declared.Number.{Number}
+use Rattle.reading.specs.declared.Number.the-variants.{Is, Refused}
+use Rattle.reading.specs.Reading.{valueAt, nullRun, totalBytesLen, totalBufferBytesUsed}
+use Rattle.listing.specs.Text.{rowLine, gapLine, opening, closing, refusedLine}
+use Rattle.shelf.specs.declared.Line.{Line}
+use Rattle.shelf.specs.declared.Line.the-variants.{Code, Null, Bad}
+use Rattle.shelf.specs.Lines.{lines, says, valueOf, firstBad}
+
+-- a row: whether it isn't null, and its bytes
+pub record Row : Type 0 where
+  pub valid : Bool
+  pub value : List ℕ
+
+abbrev pub row : Bool → List ℕ → Row
+row v x = record { valid = v; value = x }
+
+abbrev pub isCode : Line → Bool
+isCode Code = true
+isCode Null = false
+isCode Bad = false
+
+-- the row that a line says; nothing follows `null=`
+abbrev pub rowOf : List ℕ → Row
+rowOf l = row (isCode (says l)) (valueOf l)
+
+-- a line for each row
+unfoldable pub rowLines : List Row → List ℕ
+rowLines [] = []
+rowLines (r ∷ rs) = rowLine (r .valid) (r .value) ++ rowLines rs
+
+-- all rows, or above twenty the first and last ten with the number of the others between
+unfoldable pub body : List Row → List ℕ
+body rs =
+    pick (leb (length rs) 20) (rowLines rs)
+    (rowLines (take 10 rs) ++ (gapLine (length rs - 20) ++ rowLines (take 10 (drop (length rs - 10) rs))))
+
+-- null rows
+unfoldable pub nullsIn : List Row → ℕ
+nullsIn [] = 0
+nullsIn (r ∷ rs) = pick (r .valid) 0 1 + nullsIn rs
+
+-- the lengths of the rows that aren't null
+unfoldable pub bytesIn : List Row → ℕ
+bytesIn [] = 0
+bytesIn (r ∷ rs) = pick (r .valid) (length (r .value)) 0 + bytesIn rs
+
+-- the lengths of the long ones
+unfoldable pub blockBytesIn : List Row → ℕ
+blockBytesIn [] = 0
+blockBytesIn (r ∷ rs) = pick (isShort (length (r .value))) 0 (length (r .value)) + blockBytesIn rs
+
+-- all long values of 16,384 bytes of input lie in the first block
+unfoldable pub blocksIn : List Row → ℕ
+blocksIn rs = pick (eqb (blockBytesIn rs) 0) 0 1
+
+-- the listing, then rows=, nulls=, bytes=, block_bytes=, blocks=
+unfoldable pub listed : List Row → List ℕ
+listed rs = opening ++ (body rs ++ closing (length rs) (nullsIn rs) (bytesIn rs) (blockBytesIn rs) (blocksIn rs))
+
+-- the first bad line, or the rows
+unfoldable pub answerLines : List (List ℕ) → List ℕ
+answerLines ls = pick (eqb (firstBad 0 ls) 0) (listed (map rowOf ls)) (refusedLine (firstBad 0 ls))
+
+-- more than 16,384 bytes of input are refused before any line is read
+unfoldable pub answer : List ℕ → List ℕ
+answer s = pick (ltb 16384 (length s)) (refusedLine 0) (answerLines (lines s))
+
+-- ---- the same of a column
+
+unfoldable pub rowsFrom : Lent → Column → ℕ → ℕ → List Row
+rowsFrom l c r zero = []
+rowsFrom l c r (suc n) = row (validAt l c r) (valueAt l c r) ∷ rowsFrom l c (suc r) n
+
+abbrev pub rowsOf : Lent → Column → List Row
+rowsOf l c = rowsFrom l c 0 (c .rows)
+
+abbrev pub numberOf : Number → ℕ
+numberOf (Is n) = n
+numberOf (Refused r) = 0
+
+unfoldable pub listedColumn : Lent → Column → List ℕ
+listedColumn l c =
+    opening ++ (body (rowsOf l c)
+    ++ closing (c .rows) (numberOf (nullRun l c 0 (c .rows))) (numberOf (totalBytesLen l c)) (numberOf (totalBufferBytesUsed l c)) (c .blocks))

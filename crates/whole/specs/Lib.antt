@@ -1,0 +1,4 @@
+pub mod Answer
+pub mod Pieces
+pub mod Sizes
+pub mod Example

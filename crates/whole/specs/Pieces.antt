@@ -1,0 +1,178 @@
+-- The pieces that the program writes, one after the other, are the whole. Assumes nothing.
+use mathlib.Core.Path.{_≡_, refl, sym, ap, _∙_}
+use mathlib.Core.Bool.{Bool, true, false}
+use mathlib.Core.List.{List, [], _∷_, _++_, append-assoc, map}
+use Prim.Native.Nat.{ℕ, zero, suc, _+_, _-_, _≤_, _<_}
+use native.Mathlib.Nat.{zero-add, add-zero}
+use native.Mathlib.Omega.{arith}
+use borrow.Author.Tests.{leb-true, leb-false, lt-ltb, le-ltb, ne-eqb}
+use lib.Dec.{leb}
+use lib.ListN.{length, take, drop, getD}
+use lib.Seq.{drop-cons, take-length}
+use Rattle.basis.specs.Pick.{pick}
+use Rattle.listing.specs.Text.{bytesText, textFrom, rowOpen, rowClose, rowLine, gapLine, opening, closing, refusedLine}
+use Rattle.listing.specs.Laws.{text-end, text-start}
+use Rattle.shelf.specs.declared.Item.{Item}
+use Rattle.shelf.specs.declared.Item.the-variants as item
+use Rattle.shelf.specs.Items.{itemCount, itemAt, partEnd}
+use Rattle.shelf.specs.ItemLaws.{count-few, count-many, item-few, item-first, item-gap, item-last}
+use Rattle.whole.specs.Answer.{Row, row, rowOf, rowLines, body, nullsIn, bytesIn, blockBytesIn, blocksIn, listed, answerLines, answer, rowsFrom, rowsOf, numberOf, listedColumn}
+use Rattle.shelf.specs.Lines.{lines, firstBad}
+use Rattle.column.specs.declared.Column.{Column}
+use Rattle.column.specs.Lent.{Lent}
+use Rattle.column.specs.Meaning.{validAt}
+use Rattle.reading.specs.Reading.{valueAt, nullRun, totalBytesLen, totalBufferBytesUsed}
+
+-- ---- a value, part by part
+
+-- what `show_value` writes between the brackets from byte `at` on: each part, followed by what is left, is what was left
+pub data Parts (x : List ℕ) : ℕ → List ℕ → Type 0 where
+  done : {at : ℕ} → length x ≤ at → Parts x at []
+  next : {at : ℕ} (t : List ℕ) (u : List ℕ) → at < length x → t ++ textFrom x (partEnd (length x) at) ≡ textFrom x at → Parts x (partEnd (length x) at) u → Parts x at (t ++ u)
+
+end-low : (n at : ℕ) → at < n → at < partEnd n at
+unfolding partEnd
+end-low n at h = omega arith
+
+late : (x : List ℕ) (at : ℕ) (u : List ℕ) → 0 < at → Parts x at u → u ≡ textFrom x at
+late x at u h (done l) = sym (text-end x at h l)
+late x at u h (next t v l e p) =
+    let low = end-low (length x) at l in
+    ap (λ (z : List ℕ). t ++ z) (late x (partEnd (length x) at) v (omega arith) p) ∙ e
+
+first : (x u : List ℕ) → Parts x 0 u → u ≡ bytesText x
+unfolding bytesText
+first [] u (done l) = refl
+first (b ∷ x) u (done l) = absurd (omega arith)
+first x u (next t v l e p) =
+    let low = end-low (length x) 0 l in
+    ap (λ (z : List ℕ). t ++ z) (late x (partEnd (length x) 0) v (omega arith) p) ∙ (e ∙ text-start x)
+
+-- a row's line: the opening bracket, the parts, the closing bracket
+pub parts-whole : (x u : List ℕ) → Parts x 0 u → rowOpen ++ (u ++ rowClose) ≡ rowLine true x
+unfolding rowLine
+parts-whole x u p = ap (λ (z : List ℕ). rowOpen ++ (z ++ rowClose)) (first x u p)
+
+-- ---- the rows and the gap, item by item
+
+abbrev pub nothing : Row
+nothing = row false []
+
+abbrev pub itemLine : List Row → Item → List ℕ
+itemLine rs (item.Row r) = rowLine (getD rs r nothing .valid) (getD rs r nothing .value)
+itemLine rs (item.Gap n) = gapLine n
+
+-- n items from item k on
+unfoldable pub itemLines : List Row → ℕ → ℕ → List ℕ
+itemLines rs k zero = []
+itemLines rs k (suc n) = itemLine rs (itemAt (length rs) k) ++ itemLines rs (suc k) n
+
+-- n rows from row r on
+unfoldable run : List Row → ℕ → ℕ → List ℕ
+run rs r zero = []
+run rs r (suc n) = itemLine rs (item.Row r) ++ run rs (suc r) n
+
+run-is : (rs : List Row) (r n : ℕ) → r + n ≤ length rs → run rs r n ≡ rowLines (take n (drop r rs))
+unfolding run rowLines
+run-is rs r zero h = refl
+run-is rs r (suc n) h =
+    rw (drop-cons rs r nothing (omega arith))
+    (ap (λ (z : List ℕ). itemLine rs (item.Row r) ++ z) (run-is rs (suc r) n (omega arith)))
+
+module _ (rs : List Row) where
+  few : (k n : ℕ) → length rs ≤ 20 → itemLines rs k n ≡ run rs k n
+  unfolding itemLines run
+  few k zero h = refl
+  few k (suc n) h = rw (← item-few (length rs) k h) (ap (λ (z : List ℕ). itemLine rs (item.Row k) ++ z) (few (suc k) n h))
+
+  early : (k n : ℕ) → 20 < length rs → k + n ≤ 10 → itemLines rs k n ≡ run rs k n
+  unfolding itemLines run
+  early k zero h g = refl
+  early k (suc n) h g = rw (← item-first (length rs) k h (omega arith)) (ap (λ (z : List ℕ). itemLine rs (item.Row k) ++ z) (early (suc k) n h (omega arith)))
+
+  last : (k n r : ℕ) → 20 < length rs → 10 < k → r ≡ length rs - 21 + k → itemLines rs k n ≡ run rs r n
+  unfolding itemLines run
+  last k zero r h g e = refl
+  last k (suc n) r h g e =
+      rw (← item-last (length rs) k h (omega arith) (λ q. omega arith), ← e)
+      (ap (λ (z : List ℕ). itemLine rs (item.Row r) ++ z) (last (suc k) n (suc r) h (omega arith) (omega arith)))
+
+  split : (k m n : ℕ) → itemLines rs k (m + n) ≡ itemLines rs k m ++ itemLines rs (k + m) n
+  unfolding itemLines
+  split k zero n = rw (zero-add n, add-zero k)
+  split k (suc m) n =
+      let e : suc m + n ≡ suc (m + n) = omega arith in
+      let d : suc k + m ≡ k + suc m = omega arith in
+      let a = itemLine rs (itemAt (length rs) k) in
+      rw e
+      (ap (λ (z : List ℕ). a ++ z) (split (suc k) m n ∙ ap (λ (j : ℕ). itemLines rs (suc k) m ++ itemLines rs j n) d)
+      ∙ sym (append-assoc a (itemLines rs (suc k) m) (itemLines rs (k + suc m) n)))
+
+  -- all items are the body
+  pub items-whole : itemLines rs 0 (itemCount (length rs)) ≡ body rs
+  unfolding body itemLines
+  items-whole = go (leb (length rs) 20) refl
+    where
+      go : (t : Bool) → leb (length rs) 20 ≡ t
+          → itemLines rs 0 (itemCount (length rs)) ≡ pick t (rowLines rs) (rowLines (take 10 rs) ++ (gapLine (length rs - 20) ++ rowLines (take 10 (drop (length rs - 10) rs))))
+      go true e =
+          let h = leb-true (length rs) 20 e in
+          ap (itemLines rs 0) (sym (count-few (length rs) h)) ∙ (few 0 (length rs) h ∙ (run-is rs 0 (length rs) (omega arith) ∙ ap rowLines (take-length rs)))
+      go false e =
+          let h = leb-false (length rs) 20 e in
+          let p = early 0 10 h (omega arith) ∙ run-is rs 0 10 (omega arith) in
+          let g = ap (itemLine rs) (sym (item-gap (length rs) 10 h refl)) in
+          let q = last 11 10 (length rs - 10) h (omega arith) (omega arith) ∙ run-is rs (length rs - 10) 10 (omega arith) in
+          ap (itemLines rs 0) (sym (count-many (length rs) h)) ∙ (split 0 10 11 ∙ λ i. p i ++ (g i ++ q i))
+
+-- ---- a column
+
+module _ (l : Lent) (c : Column) where
+  rows-length : (r n : ℕ) → length (rowsFrom l c r n) ≡ n
+  unfolding rowsFrom
+  rows-length r zero = refl
+  rows-length r (suc n) = ap suc (rows-length (suc r) n)
+
+  rows-at : (r n k : ℕ) → k < n → getD (rowsFrom l c r n) k nothing ≡ row (validAt l c (r + k)) (valueAt l c (r + k))
+  unfolding rowsFrom
+  rows-at r zero k h = absurd (omega arith)
+  rows-at r (suc n) zero h = rw (add-zero r)
+  rows-at r (suc n) (suc k) h = let e : suc r + k ≡ r + suc k = omega arith in rows-at (suc r) n k (omega arith) ∙ ap (λ (j : ℕ). row (validAt l c j) (valueAt l c j)) e
+
+  -- the line of item k of a column, as `show_row` writes it
+  pub row-line : (r : ℕ) → r < c .rows → itemLine (rowsOf l c) (item.Row r) ≡ rowLine (validAt l c r) (valueAt l c r)
+  row-line r h =
+      let e : 0 + r ≡ r = omega arith in
+      ap (λ (z : Row). rowLine (z .valid) (z .value)) (rows-at 0 (c .rows) r h ∙ ap (λ (j : ℕ). row (validAt l c j) (valueAt l c j)) e)
+
+  -- the opening, the items in order, and the closing lines are the listing
+  pub column-whole : opening ++ (itemLines (rowsOf l c) 0 (itemCount (c .rows))
+      ++ closing (c .rows) (numberOf (nullRun l c 0 (c .rows))) (numberOf (totalBytesLen l c)) (numberOf (totalBufferBytesUsed l c)) (c .blocks)) ≡ listedColumn l c
+  unfolding listedColumn
+  column-whole =
+      let e : itemLines (rowsOf l c) 0 (itemCount (c .rows)) ≡ body (rowsOf l c) = ap (λ (n : ℕ). itemLines (rowsOf l c) 0 (itemCount n)) (sym (rows-length 0 (c .rows))) ∙ items-whole (rowsOf l c) in
+      ap (λ (z : List ℕ). opening ++ (z ++ closing (c .rows) (numberOf (nullRun l c 0 (c .rows))) (numberOf (totalBytesLen l c)) (numberOf (totalBufferBytesUsed l c)) (c .blocks))) e
+
+-- A column that shows rows: what the builder's promise has to give. Not proved here.
+pub record Shows (l : Lent) (c : Column) (rs : List Row) : Type 0 where
+  pub rows : rowsOf l c ≡ rs
+  pub nulls : numberOf (nullRun l c 0 (c .rows)) ≡ nullsIn rs
+  pub bytes : numberOf (totalBytesLen l c) ≡ bytesIn rs
+  pub long : numberOf (totalBufferBytesUsed l c) ≡ blockBytesIn rs
+  pub blocks : c .blocks ≡ blocksIn rs
+
+-- a column that shows the lines' rows is listed as the answer to them
+pub answered : (l : Lent) (c : Column) (s : List ℕ) → length s ≤ 16384 → firstBad 0 (lines s) ≡ 0 → Shows l c (map rowOf (lines s)) → listedColumn l c ≡ answer s
+unfolding answer answerLines listed listedColumn
+answered l c s h g w =
+    let n : c .rows ≡ length (map rowOf (lines s)) = sym (rows-length l c 0 (c .rows)) ∙ ap length (w .rows) in
+    rw (le-ltb 16384 (length s) h, g) (λ i. opening ++ (body (w .rows i) ++ closing (n i) (w .nulls i) (w .bytes i) (w .long i) (w .blocks i)))
+
+-- the two refusals
+pub answered-size : (s : List ℕ) → 16384 < length s → refusedLine 0 ≡ answer s
+unfolding answer
+answered-size s h = rw (lt-ltb 16384 (length s) h)
+
+pub answered-bad : (s : List ℕ) (n : ℕ) → length s ≤ 16384 → n ≡ firstBad 0 (lines s) → (n ≡ 0 → ⊥) → refusedLine n ≡ answer s
+unfolding answer answerLines
+answered-bad s n h e g = rw (le-ltb 16384 (length s) h, ← e, ne-eqb n 0 g)

@@ -1,0 +1,1 @@
+// The whole answer of the program, as definitions and laws: specs/.

@@ -6,12 +6,12 @@ use contract.Lifetimes.{Lfts}
 use denote.Ref.{now}
 use denote.Triple.Clauses.{AtExit}
 use borrow.Fn.Kinds.{Dens, resT, endedOf}
-use Rattle.builder.proofs.append_null.Kinds as null-kinds
-use Rattle.builder.proofs.append_null.Reads as null
-use Rattle.builder.proofs.append_value.Kinds as value-kinds
-use Rattle.builder.proofs.append_value.Reads as value
-use Rattle.builder.proofs.append_values.Kinds as values-kinds
-use Rattle.builder.proofs.append_values.Reads as values
+use Rattle.values.proofs.append_null.Kinds as null-kinds
+use Rattle.values.proofs.append_null.Reads as null
+use Rattle.values.proofs.append_value.Kinds as value-kinds
+use Rattle.values.proofs.append_value.Reads as value
+use Rattle.values.proofs.append_values.Kinds as values-kinds
+use Rattle.values.proofs.append_values.Reads as values
 use Rattle.finishing.proofs.start.Kinds as start-kinds
 use Rattle.finishing.proofs.start.Reads as begin
 use Rattle.finishing.proofs.finish.Kinds as finish-kinds

@@ -101,11 +101,11 @@ fn turn(
     let what = says(line);
     match what {
         Line::Code => {
-            let r = builder::append_value(s, views, bytes, starts, lens, nulls, places, tail(line));
+            let r = values::append_value(s, views, bytes, starts, lens, nulls, places, tail(line));
             r.state
         }
         Line::Null => {
-            let r = builder::append_null(
+            let r = values::append_null(
                 s,
                 views,
                 &bytes[..],

@@ -21,3 +21,5 @@ pub mod Coded
 pub mod Tied
 pub mod Twice
 pub mod Compactions
+pub mod Answered
+pub mod Outputs

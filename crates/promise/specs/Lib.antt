@@ -7,3 +7,4 @@ pub mod Library
 pub mod Mixed
 pub mod Coded
 pub mod Compactions
+pub mod Answered

@@ -87,7 +87,7 @@ pub fn column_of(l: &[usize]) -> Column
     }
 }
 
-fn told_why(w: Why) -> Told
+pub fn told_why(w: Why) -> Told
     ensures { λ r. ⌜ r ≡ whyTold w ⌝ }
 {
     match w {

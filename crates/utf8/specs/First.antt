@@ -109,6 +109,11 @@ pub first-walk : (s : List ℕ) → firstBad s ≡ walk s
 unfolding firstBad
 first-walk s = lowest-is (isBad s) 0 (length s) (walk s) (omega arith) (omega (arith, ended s .in-text)) (λ j g h. not-before s j h) (λ h. there s)
 
+-- a text is well formed exactly where the place is its end
+pub formed-end : (s : List ℕ) → wellFormed s ≡ eqb (firstBad s) (length s)
+unfolding wellFormed
+formed-end s = rw (first-walk s)
+
 -- both directions: it is such a place, and each such place is it
 
 pub first-bad : (s : List ℕ) → BadAt s (firstBad s)

@@ -6,3 +6,4 @@ pub mod Merged
 pub mod Library
 pub mod Mixed
 pub mod Coded
+pub mod Compactions

@@ -58,7 +58,7 @@ inv-ran xs (more {c = c} {cs} {b} w r) i = inv-ran (after c b xs) r (inv-put c b
 
 -- ---- what a column that shows cells answers
 
-cell-bit : (xs : List Cell) (i : ℕ) → i < length xs → getD (map validIn xs) i true ≡ getD xs i no·value .valid
+pub cell-bit : (xs : List Cell) (i : ℕ) → i < length xs → getD (map validIn xs) i true ≡ getD xs i no·value .valid
 cell-bit [] i h = absurd (not-suc-le-zero h)
 cell-bit (x ∷ xs) zero h = refl
 cell-bit (x ∷ xs) (suc i) h = cell-bit xs i (le-of-suc-le-suc h)

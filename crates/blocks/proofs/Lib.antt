@@ -1,1 +1,2 @@
 pub mod AskLook
+pub mod Second

@@ -1,9 +1,9 @@
-// Columns in batches, for C and Rust: what is measured is the work, not the call. In a crate of its own, so that each worker has one caller.
+// Instruments of the timing driver, no calls of the library: a whole column in one call, so that what is measured is the work. A column that does not fit answers 0.
 ghost use mathlib.Core.Path.{_≡_};
 ghost use Prim.Native.Nat.{_≤_};
 ghost use lib.Dec.{eqb};
 ghost use Rattle.basis.specs.Pick.{pick};
-ghost use Rattle.column.specs.Lent.{lent};
+ghost use Rattle.column.specs.Lent.{lentOf};
 ghost use Rattle.exports.specs.Exported.{columnOf};
 ghost use Rattle.batches.specs.Batches.{lessBatch, tasteOf, tasteBatch};
 
@@ -18,15 +18,15 @@ fn one_if_zero(x: u64) -> u64
 
 // How many rows are below the next one, by their views; 0 where the column doesn't fit its buffers.
 #[no_mangle]
-pub extern "C" fn tambuyeel_count_less<'a>(
+pub extern "C" fn bench_count_less<'a>(
     views: &'a [u8],
     bytes: &'a [u8],
     starts: &[usize],
     lens: &[usize],
     nulls: &[u8],
-    column: &[usize],
+    column: &[usize; 5],
 ) -> u64
-    ensures { λ r. ⌜ r ≡ lessBatch (lent (now (views .entry)) (now (bytes .entry)) (now (starts .entry)) (now (lens .entry)) (now (nulls .entry))) (columnOf (now (column .entry))) ⌝ }
+    ensures { λ r. ⌜ r ≡ lessBatch (lentOf (views .entry) (bytes .entry) (starts .entry) (lens .entry) (nulls .entry)) (columnOf (now (column .entry))) ⌝ }
 {
     let c = exports::column_of(column);
     if !column::fits(views, bytes, starts, lens, nulls, c) {
@@ -68,15 +68,15 @@ fn taste(x: &[u8]) -> u64
 
 // The lengths and the first bytes of all values, added up modulo 2^64; 0 where the column doesn't fit its buffers.
 #[no_mangle]
-pub extern "C" fn tambuyeel_read_all<'a>(
+pub extern "C" fn bench_read_all<'a>(
     views: &'a [u8],
     bytes: &'a [u8],
     starts: &[usize],
     lens: &[usize],
     nulls: &[u8],
-    column: &[usize],
+    column: &[usize; 5],
 ) -> u64
-    ensures { λ r. ⌜ r ≡ tasteBatch (lent (now (views .entry)) (now (bytes .entry)) (now (starts .entry)) (now (lens .entry)) (now (nulls .entry))) (columnOf (now (column .entry))) ⌝ }
+    ensures { λ r. ⌜ r ≡ tasteBatch (lentOf (views .entry) (bytes .entry) (starts .entry) (lens .entry) (nulls .entry)) (columnOf (now (column .entry))) ⌝ }
 {
     let c = exports::column_of(column);
     if !column::fits(views, bytes, starts, lens, nulls, c) {

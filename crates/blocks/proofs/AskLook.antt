@@ -25,8 +25,8 @@ use denote.Triple.Clauses.{ensured, lasts}
 use denote.Struct.Laws as LL
 use Rattle.column.specs.declared.Block.{Block}
 use Rattle.column.specs.declared.Column.{Column}
-use Rattle.blocks.specs.declared.Seen.{Seen}
-use Rattle.blocks.specs.Seen.{Sees}
+use Rattle.column.specs.declared.Seen.{Seen}
+use Rattle.column.specs.Spot.{Sees}
 use Rattle.column.proofs.Block as T
 use Rattle.column.proofs.Column as K
 use Rattle.column.proofs.Column.Laws as K′

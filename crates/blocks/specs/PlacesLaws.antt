@@ -1,6 +1,6 @@
 -- The check by its places: what a place that holds tells, and the verdict at the first that doesn't. Assumes nothing.
 use mathlib.Core.Path.{_≡_, refl, sym, ap, subst, _∙_}
-use mathlib.Core.Bool.{Bool, true, false, not}
+use mathlib.Core.Bool.{Bool, true, false, not, true≢false}
 use mathlib.Core.List.{List, []}
 use mathlib.Core.Logic.{by-cases}
 use Prim.Native.Nat.{ℕ, zero, suc, _+_, _-_, _*_, _≤_, _<_}
@@ -8,8 +8,7 @@ use native.Mathlib.Nat.{not-suc-le-zero, add-sub-cancel-left}
 use native.Mathlib.Decide.{ℕ-discrete}
 use native.Mathlib.Omega.{arith}
 use borrow.Author.Tests.{lt-ltb, le-ltb}
-use lib.ListN.{length, take, drop, getD, length-drop}
-use lib.Seq.{length-take-le}
+use lib.ListN.{length, getD}
 use Rattle.bounds.specs.Refusals.{refuse, refuse-yes, refuse-no}
 use Rattle.bounds.specs.declared.Refusal.the-variants.{Fit, Range, BadView}
 use Rattle.bounds.specs.declared.Why.{Why}
@@ -20,14 +19,13 @@ use Rattle.column.specs.declared.Column.{Column}
 use Rattle.column.specs.Lent.{Lent, buffers, block, blockAt, fits, inData, dataRoom, allInData}
 use Rattle.column.specs.FitLaws.{and-no}
 use Rattle.column.specs.LowestLaws.{lowest-none, lowest-bad}
+use Rattle.column.specs.Spot.{Names}
 use Rattle.column.specs.Truth.{isTrue, trueAt}
 use Rattle.validity.specs.Check.{whyInvalid}
 use Rattle.blocks.specs.Places.{holdsAt, Asks, Answers, Counted, Found, Stopped}
-use Rattle.blocks.specs.SeenLaws.{never}
 
--- a part from a to a + n is n long
-pub part-length : (s : List ℕ) (a n : ℕ) → a + n ≤ length s → length (take (a + n - a) (drop a s)) ≡ n
-part-length s a n h = rw (add-sub-cancel-left a n) (length-take-le n (drop a s) (simp length-drop (omega arith)))
+pub never : {A : Type 0} → false ≡ true → A
+never h = absurd (true≢false (sym h))
 
 module _ (l : Lent) (c : Column) where
   pub holds-row : (k : ℕ) → k < c .rows → holdsAt l c k ≡ trueAt (c .kind) l c k
@@ -103,12 +101,12 @@ module _ (views bytes : List ℕ) (table : List Block) (c : Column) (places k p 
       }
 
   pub row-answer : k < places → k < c .rows → viewSize * (c .first + k) + viewSize ≤ length views
-      → ((ts : List Block) (nulls : List ℕ) → b ≡ getD ts (blockOf (viewAt views (c .first + k))) (block 0 0) → r ≡ isTrue (buffers views bytes ts nulls) (c .kind) (c .blocks) (viewAt views (c .first + k)))
+      → ((ts : List Block) (nulls : List ℕ) → Names ts (c .blocks) (viewAt views (c .first + k)) b → r ≡ isTrue (buffers views bytes ts nulls) (c .kind) (c .blocks) (viewAt views (c .first + k)))
       → Answers views bytes table c places k r
   row-answer h g room f =
       record {
         below = λ t. h;
-        right = λ nulls _ i. f table nulls (e ∙ ap (λ (j : ℕ). getD table j (block 0 0)) (asks .row g room)) ∙ sym (holds-row (buffers views bytes table nulls) c k g);
+        right = λ nulls _ i. f table nulls (λ long named. e ∙ ap (λ (j : ℕ). getD table j (block 0 0)) (asks .row g room)) ∙ sym (holds-row (buffers views bytes table nulls) c k g);
       }
 
 -- ---- from place to place

@@ -5,19 +5,16 @@ ghost use mathlib.Core.Bool.{true};
 ghost use mathlib.Core.List.{List};
 ghost use Prim.Native.Nat.{ℕ, _+_, _*_, _≤_};
 ghost use lib.ListN.{length, getD};
-ghost use Rattle.views.specs.View.{viewSize, viewAt, lengthOf, blockOf};
+ghost use denote.Ref.{ptr};
+ghost use Rattle.views.specs.View.{viewSize, viewAt, blockOf};
 ghost use Rattle.column.specs.declared.Block.{Block};
 ghost use Rattle.column.specs.Lent.{buffers, block, fits};
-ghost use Rattle.column.specs.Meaning.{blocksOf, shown};
-ghost use Rattle.column.specs.Truth.{reachable, isTrue};
-ghost use Rattle.reading.specs.Reading.{whyValue, valueAt};
+ghost use Rattle.column.specs.Spot.{Sees};
+ghost use Rattle.reading.specs.Reading.{whyValue, valueAt, pointsAt};
 ghost use Rattle.bounds.specs.Bounds.{rowLimit};
 ghost use Rattle.bounds.specs.Refusals.{isAccepted};
-ghost use Rattle.order.specs.Order.{ordering};
-ghost use Rattle.comparison.specs.Compare.{compareViews, compareRows};
-ghost use Rattle.blocks.specs.Both.{bothOf};
+ghost use Rattle.comparison.specs.Compare.{compareRows};
 ghost use Rattle.reading.specs.Walk.{cursor, walkValue, walkStep};
-ghost use Rattle.blocks.specs.Seen.{Sees, Spans};
 ghost use Rattle.blocks.specs.Walk.{heldBy, placeAfter};
 ghost use Rattle.validity.specs.Check.{whyInvalid};
 ghost use Rattle.blocks.specs.Places.{Asks, Answers, Counted, Found, Stopped};
@@ -25,16 +22,8 @@ use bounds::Refusal;
 use bounds::Why;
 use column::Block;
 use column::Column;
-use column::Kind;
+use column::Seen;
 use comparison::Compared;
-use comparison::Verdict;
-use order::Order;
-
-// What a row sees of the table: how many records there are, and the record of the block that its view names.
-pub struct Seen {
-    pub count: usize,
-    pub block: Block,
-}
 
 // How many records the table has.
 pub fn count(table: &[Block]) -> usize
@@ -68,136 +57,8 @@ fn block_of(views: &[u8], c: Column, row: usize) -> usize
     views::view_block(views, first + row)
 }
 
-// Whether a column's numbers fit the buffers, by how many records the table has.
-fn fits_with<'a>(views: &'a [u8], nulls: &'a [u8], c: Column, count: usize) -> bool
-    ensures { λ r. ⌜ (r ≡ true → viewSize * (c .first + c .rows) ≤ length (now (views .entry)))
-        × ((bytes : List ℕ) (table : List Block) → count ≡ length table → r ≡ fits (buffers (now (views .entry)) bytes table (now (nulls .entry))) c) ⌝ }
-{
-    let first = c.first;
-    let rows = c.rows;
-    let blocks = c.blocks;
-    let mapped = c.mapped;
-    if bounds::ROW_LIMIT < first {
-        return false;
-    }
-    if bounds::ROW_LIMIT - first < rows {
-        return false;
-    }
-    let end = first + rows;
-    if views.len() / views::VIEW_SIZE < end {
-        return false;
-    }
-    if !column::map_holds(nulls, mapped, end) {
-        return false;
-    }
-    if bounds::BLOCK_LIMIT < blocks {
-        return false;
-    }
-    blocks <= count
-}
-
-// Whether the view of a row, which counts from row 0 of the views, is reachable, by the record of the block that it names.
-fn reach_with<'a>(views: &'a [u8], bytes: &'a [u8], at: usize, blocks: usize, b: Block) -> bool
-    requires { ⌜ viewSize * at + viewSize ≤ length (now views) ⌝ }
-    ensures { λ r. ⌜ (r ≡ true → Spans (now (bytes .entry)) b (viewAt (now (views .entry)) at))
-        × ((table : List Block) (nulls : List ℕ) → b ≡ getD table (blockOf (viewAt (now (views .entry)) at)) (block 0 0)
-        → r ≡ reachable (buffers (now (views .entry)) (now (bytes .entry)) table nulls) blocks (viewAt (now (views .entry)) at)) ⌝ }
-{
-    let len = views::view_len(views, at);
-    if len <= views::SHORT_MOST {
-        return true;
-    }
-    if blocks <= views::view_block(views, at) {
-        return false;
-    }
-    let start = b.start;
-    let size = b.len;
-    if !column::in_data(bytes, start, size) {
-        return false;
-    }
-    views::view_offset(views, at) + len <= size
-}
-
-// Why a row's value is refused, by what the row sees of the table.
-fn why_with<'a>(
-    views: &'a [u8],
-    bytes: &'a [u8],
-    nulls: &'a [u8],
-    c: Column,
-    row: usize,
-    s: Seen,
-) -> Why
-    ensures { λ w. ⌜ ((table : List Block) → Sees table (now (views .entry)) (c .first + row) s
-        → w ≡ whyValue (buffers (now (views .entry)) (now (bytes .entry)) table (now (nulls .entry))) c row) ⌝ }
-{
-    let count = s.count;
-    if !fits_with(views, nulls, c, count) {
-        return Why::Refused(Refusal::Fit);
-    }
-    let rows = c.rows;
-    if rows <= row {
-        return Why::Refused(Refusal::Row);
-    }
-    let first = c.first;
-    let blocks = c.blocks;
-    let b = s.block;
-    if !reach_with(views, bytes, first + row, blocks, b) {
-        return Why::Refused(Refusal::BadView(row));
-    }
-    Why::Accepted
-}
-
-// The part that a reachable view shows, by the record of its block.
-fn part_with<'a>(views: &'a [u8], bytes: &'a [u8], at: usize, b: Block) -> &'a [u8]
-    requires { ⌜ (viewSize * at + viewSize ≤ length (now views)) × Spans (now bytes) b (viewAt (now views) at) ⌝ }
-    ensures { λ r. ⌜ (length (now r) ≡ lengthOf (viewAt (now (views .entry)) at))
-        × ((table : List Block) (nulls : List ℕ) (blocks : ℕ) → b ≡ getD table (blockOf (viewAt (now (views .entry)) at)) (block 0 0)
-        → reachable (buffers (now (views .entry)) (now (bytes .entry)) table nulls) blocks (viewAt (now (views .entry)) at) ≡ true
-        → now r ≡ shown (blocksOf (buffers (now (views .entry)) (now (bytes .entry)) table nulls) blocks) (viewAt (now (views .entry)) at)) ⌝ }
-{
-    let len = views::view_len(views, at);
-    if len <= views::SHORT_MOST {
-        let a = views::VIEW_SIZE * at + 4;
-        let e = a + len;
-        return &views[a..e];
-    }
-    let start = b.start;
-    let a = start + views::view_offset(views, at);
-    let e = a + len;
-    &bytes[a..e]
-}
-
-// A row's value, by what the row sees of the table.
-fn value_with<'a>(
-    views: &'a [u8],
-    bytes: &'a [u8],
-    nulls: &'a [u8],
-    c: Column,
-    row: usize,
-    s: Seen,
-) -> &'a [u8]
-    ensures { λ r. ⌜ ((table : List Block) → Sees table (now (views .entry)) (c .first + row) s
-        → now r ≡ valueAt (buffers (now (views .entry)) (now (bytes .entry)) table (now (nulls .entry))) c row) ⌝ }
-{
-    let count = s.count;
-    if !fits_with(views, nulls, c, count) {
-        return &views[0..0];
-    }
-    let rows = c.rows;
-    if rows <= row {
-        return &views[0..0];
-    }
-    let at = c.first + row;
-    let blocks = c.blocks;
-    let b = s.block;
-    if !reach_with(views, bytes, at, blocks, b) {
-        return &views[0..0];
-    }
-    part_with(views, bytes, at, b)
-}
-
 // What a row of a column sees of the table.
-pub fn look<'a>(views: &'a [u8], table: &'a [Block], c: Column, row: usize) -> Seen
+fn look<'a>(views: &'a [u8], table: &'a [Block], c: Column, row: usize) -> Seen
     ensures { λ s. ⌜ Sees (now (table .entry)) (now (views .entry)) (c .first + row) s ⌝ }
 {
     let k = block_of(views, c, row);
@@ -218,7 +79,7 @@ pub fn why_value<'a>(
     ensures { λ w. ⌜ w ≡ whyValue (buffers (now (views .entry)) (now (bytes .entry)) (now (table .entry)) (now (nulls .entry))) c row ⌝ }
 {
     let s = look(views, table, c, row);
-    why_with(views, bytes, nulls, c, row, s)
+    reading::why_with(views, bytes, nulls, c, row, s)
 }
 
 // A row's value, a part of the views where it is short and of the data where it is long; empty where it is refused.
@@ -230,10 +91,11 @@ pub fn value<'a>(
     c: Column,
     row: usize,
 ) -> &'a [u8]
-    ensures { λ r. ⌜ now r ≡ valueAt (buffers (now (views .entry)) (now (bytes .entry)) (now (table .entry)) (now (nulls .entry))) c row ⌝ }
+    ensures { λ r. ⌜ (now r ≡ valueAt (buffers (now (views .entry)) (now (bytes .entry)) (now (table .entry)) (now (nulls .entry))) c row)
+        × (ptr r ≡ pointsAt (buffers (now (views .entry)) (now (bytes .entry)) (now (table .entry)) (now (nulls .entry))) c row (ptr (views .entry)) (ptr (bytes .entry))) ⌝ }
 {
     let s = look(views, table, c, row);
-    value_with(views, bytes, nulls, c, row, s)
+    reading::value_with(views, bytes, nulls, c, row, s)
 }
 
 // The row walk: the lent buffers, the column, and the place of the next row.
@@ -288,7 +150,8 @@ pub fn new<'a>(
 
 // The value at the walk's place, and the step to the next row: past the end 3, at a bad row 11, and the place stays.
 pub fn next<'a>(w: Walk<'a>) -> Item<'a>
-    ensures { λ r. ⌜ (now (r .value) ≡ walkValue (heldBy (w .entry)) (w .entry .column) (cursor (w .entry .at)))
+    ensures { λ r. ⌜ ((now (r .value) ≡ walkValue (heldBy (w .entry)) (w .entry .column) (cursor (w .entry .at)))
+        × (ptr (r .value) ≡ pointsAt (heldBy (w .entry)) (w .entry .column) (w .entry .at) (ptr (w .entry .views)) (ptr (w .entry .bytes))))
         × ((r .why ≡ walkStep (heldBy (w .entry)) (w .entry .column) (cursor (w .entry .at)) .why)
         × (r .walk ≡ record { views = w .entry .views; bytes = w .entry .bytes; table = w .entry .table; nulls = w .entry .nulls; column = w .entry .column; at = walkStep (heldBy (w .entry)) (w .entry .column) (cursor (w .entry .at)) .next .at })) ⌝ }
 {
@@ -315,100 +178,6 @@ pub fn next<'a>(w: Walk<'a>) -> Item<'a>
     }
 }
 
-// The verdict on two rows by the verdicts on each: the lower number, and of equal ones the left.
-fn verdict_of(w: Why, v: Why) -> Verdict
-    ensures { λ r. ⌜ r ≡ bothOf w v ⌝ }
-{
-    match w {
-        Why::Accepted => match v {
-            Why::Accepted => return Verdict::Accepted,
-            Why::Refused(s) => return Verdict::Right(s),
-        },
-        Why::Refused(r) => match v {
-            Why::Accepted => return Verdict::Left(r),
-            Why::Refused(s) => {
-                if bounds::number(r) <= bounds::number(s) {
-                    return Verdict::Left(r);
-                }
-                return Verdict::Right(s);
-            }
-        },
-    }
-}
-
-// The bytes of a row's view, none where the views have no such row.
-fn view_of<'a>(views: &'a [u8], c: Column, row: usize) -> &'a [u8]
-    ensures { λ r. ⌜ (viewSize * (c .first + row) + viewSize ≤ length (now (views .entry)) → now r ≡ viewAt (now (views .entry)) (c .first + row)) ⌝ }
-{
-    let first = c.first;
-    let rows = views.len() / views::VIEW_SIZE;
-    if rows <= first {
-        return &views[0..0];
-    }
-    if rows - first <= row {
-        return &views[0..0];
-    }
-    let a = views::VIEW_SIZE * (first + row);
-    let e = a + views::VIEW_SIZE;
-    &views[a..e]
-}
-
-// Two views and the values that they show: short ones by their twelve bytes, then length; otherwise four bytes, then whole values.
-fn order_with<'a>(v: &'a [u8], x: &'a [u8], w: &'a [u8], y: &'a [u8]) -> Order
-    ensures { λ r. ⌜ ((bs cs : List (List ℕ)) → length (now (v .entry)) ≡ viewSize → length (now (w .entry)) ≡ viewSize
-        → now (x .entry) ≡ shown bs (now (v .entry)) → now (y .entry) ≡ shown cs (now (w .entry)) → ordering r ≡ compareViews bs (now (v .entry)) cs (now (w .entry))) ⌝ }
-{
-    if v.len() != views::VIEW_SIZE {
-        return Order::Equal;
-    }
-    if w.len() != views::VIEW_SIZE {
-        return Order::Equal;
-    }
-    if comparison::both_short(views::view_len(v, 0), views::view_len(w, 0)) {
-        return order::cmp_short(v, w);
-    }
-    let o = order::cmp_prefix(v, w);
-    match o {
-        Order::Less => return Order::Less,
-        Order::Greater => return Order::Greater,
-        Order::Equal => return order::cmp(x, y),
-    }
-}
-
-// Two rows, by what each sees of its table.
-fn compare_with<'a>(
-    views: &'a [u8],
-    bytes: &'a [u8],
-    nulls: &'a [u8],
-    c: Column,
-    i: usize,
-    s: Seen,
-    views2: &'a [u8],
-    bytes2: &'a [u8],
-    nulls2: &'a [u8],
-    d: Column,
-    j: usize,
-    s2: Seen,
-) -> Compared
-    ensures { λ r. ⌜ ((table table2 : List Block) → Sees table (now (views .entry)) (c .first + i) s → Sees table2 (now (views2 .entry)) (d .first + j) s2
-        → r ≡ compareRows (buffers (now (views .entry)) (now (bytes .entry)) table (now (nulls .entry))) c i (buffers (now (views2 .entry)) (now (bytes2 .entry)) table2 (now (nulls2 .entry))) d j) ⌝ }
-{
-    let left = why_with(views, bytes, nulls, c, i, s);
-    let right = why_with(views2, bytes2, nulls2, d, j, s2);
-    let why = verdict_of(left, right);
-    match why {
-        Verdict::Left(r) => return Compared::Left(r),
-        Verdict::Right(r) => return Compared::Right(r),
-        Verdict::Accepted => {
-            let x = value_with(views, bytes, nulls, c, i, s);
-            let y = value_with(views2, bytes2, nulls2, d, j, s2);
-            let v = view_of(views, c, i);
-            let w = view_of(views2, d, j);
-            return Compared::Is(order_with(v, x, w, y));
-        }
-    }
-}
-
 // Row i of one column against row j of another, null bits ignored.
 pub fn compare<'a>(
     views: &'a [u8],
@@ -428,7 +197,7 @@ pub fn compare<'a>(
 {
     let s = look(views, table, c, i);
     let s2 = look(views2, table2, d, j);
-    compare_with(
+    comparison::compare_with(
         views,
         bytes,
         nulls,
@@ -442,29 +211,6 @@ pub fn compare<'a>(
         j,
         s2,
     )
-}
-
-// Whether the view of a row, which counts from row 0 of the views, is true, by the record of the block that it names.
-fn true_with<'a>(
-    views: &'a [u8],
-    bytes: &'a [u8],
-    at: usize,
-    kind: Kind,
-    blocks: usize,
-    b: Block,
-) -> bool
-    requires { ⌜ viewSize * at + viewSize ≤ length (now views) ⌝ }
-    ensures { λ r. ⌜ ((table : List Block) (nulls : List ℕ) → b ≡ getD table (blockOf (viewAt (now (views .entry)) at)) (block 0 0)
-        → r ≡ isTrue (buffers (now (views .entry)) (now (bytes .entry)) table nulls) kind blocks (viewAt (now (views .entry)) at)) ⌝ }
-{
-    if !reach_with(views, bytes, at, blocks, b) {
-        return false;
-    }
-    let value = part_with(views, bytes, at, b);
-    if !column::honest_at(views, at, value) {
-        return false;
-    }
-    column::of_kind(kind, value)
 }
 
 // The number of the record that place k of the check asks for: a row asks for that of the block its view names, a block for its own.
@@ -502,14 +248,14 @@ fn judge<'a>(views: &'a [u8], bytes: &'a [u8], c: Column, places: usize, k: usiz
     }
     let kind = c.kind;
     let blocks = c.blocks;
-    true_with(views, bytes, first + k, kind, blocks, b)
+    column::true_with(views, bytes, first + k, kind, blocks, b)
 }
 
 // How many places the check asks: a column's rows and blocks, and none where the column doesn't fit.
 fn places_with<'a>(views: &'a [u8], nulls: &'a [u8], c: Column, count: usize) -> usize
     ensures { λ n. ⌜ Counted (now (views .entry)) (now (nulls .entry)) c count n ⌝ }
 {
-    if !fits_with(views, nulls, c, count) {
+    if !column::fits_with(views, nulls, c, count) {
         return 0;
     }
     let rows = c.rows;
@@ -526,7 +272,7 @@ fn check_with<'a>(views: &'a [u8], nulls: &'a [u8], c: Column, count: usize, k: 
         → (fits (buffers (now (views .entry)) bytes table (now (nulls .entry))) c ≡ true → Stopped (buffers (now (views .entry)) bytes table (now (nulls .entry))) c k)
         → w ≡ whyInvalid (buffers (now (views .entry)) bytes table (now (nulls .entry))) c) ⌝ }
 {
-    if !fits_with(views, nulls, c, count) {
+    if !column::fits_with(views, nulls, c, count) {
         return Why::Refused(Refusal::Fit);
     }
     let rows = c.rows;

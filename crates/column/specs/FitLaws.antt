@@ -13,6 +13,7 @@ use lib.Dec.{leb}
 use lib.ListN.{length, getD}
 use Rattle.bounds.specs.Bounds.{rowLimit, blockLimit, byteLimit}
 use Rattle.views.specs.View.{viewSize}
+use Rattle.column.specs.declared.Block.{Block}
 use Rattle.column.specs.declared.Column.{Column}
 use Rattle.column.specs.Lent.{Lent, block, buffers, blockAt, allInData, tableOf, lent, mapRoom, rowRoom, blockRoom, dataRoom, fits, inData}
 use Rattle.column.specs.Room.{bare, InRoom, Listed}
@@ -118,47 +119,57 @@ pub record Fitting (vs ss ns ms : List ℕ) (c : Column) : Type 0 where
   pub starts : c .blocks ≤ length ss
   pub lens : c .blocks ≤ length ns
 
-module _ (views bytes starts lens nulls : List ℕ) (c : Column) where
-  abbrev buffered : Lent
-  buffered = lent views bytes starts lens nulls
+-- the tests one by one, over any table: what fails the column
+module _ (views bytes nulls : List ℕ) (table : List Block) (c : Column) where
+  abbrev l : Lent
+  l = buffers views bytes table nulls
 
-  rows-over : rowRoom (c .mapped) buffered < c .first + c .rows → false ≡ fits buffered c
+  rows-over : rowRoom (c .mapped) l < c .first + c .rows → false ≡ fits l c
   unfolding fits
-  rows-over h = rw (lt-leb (c .first + c .rows) (rowRoom (c .mapped) buffered) h)
+  rows-over h = rw (lt-leb (c .first + c .rows) (rowRoom (c .mapped) l) h)
 
-  blocks-over : blockRoom buffered < c .blocks → false ≡ fits buffered c
-  unfolding fits
-  blocks-over h = and-no (leb (c .first + c .rows) (rowRoom (c .mapped) buffered)) (leb (c .blocks) (blockRoom buffered)) (lt-leb (c .blocks) (blockRoom buffered) h)
-
-  -- the tests one by one: what fails the column
-  pub over-limit : rowLimit < c .first + c .rows → false ≡ fits buffered c
+  pub over-limit : rowLimit < c .first + c .rows → false ≡ fits l c
   unfolding rowRoom
   over-limit h = rows-over (omega arith)
 
-  pub over-views : length views / viewSize < c .first + c .rows → false ≡ fits buffered c
+  pub over-views : length views / viewSize < c .first + c .rows → false ≡ fits l c
   unfolding rowRoom
   over-views h = rows-over (omega arith)
 
-  pub over-map : leb (c .first + c .rows) (mapRoom (c .mapped) nulls) ≡ false → false ≡ fits buffered c
+  pub over-map : leb (c .first + c .rows) (mapRoom (c .mapped) nulls) ≡ false → false ≡ fits l c
   unfolding rowRoom
   over-map h = let g = leb-false (c .first + c .rows) (mapRoom (c .mapped) nulls) h in rows-over (omega arith)
 
-  pub over-blocks : blockLimit < c .blocks → false ≡ fits buffered c
-  unfolding blockRoom
-  over-blocks h = blocks-over (omega arith)
+  pub over-blocks : blockLimit < c .blocks → false ≡ fits l c
+  unfolding fits blockRoom
+  over-blocks h = and-no (leb (c .first + c .rows) (rowRoom (c .mapped) l)) (leb (c .blocks) (blockRoom l)) (lt-leb (c .blocks) (blockRoom l) (omega arith))
 
-  pub over-starts : length starts < c .blocks → false ≡ fits buffered c
-  unfolding blockRoom
-  over-starts h = blocks-over (omega (arith, length-table starts lens))
-
-  -- and where none does, the last one says it
-  pub fits-is : c .first + c .rows ≤ rowLimit → c .first + c .rows ≤ length views / viewSize → leb (c .first + c .rows) (mapRoom (c .mapped) nulls) ≡ true
-      → c .blocks ≤ blockLimit → c .blocks ≤ length starts → leb (c .blocks) (length lens) ≡ fits buffered c
+  -- where none does, the count of the records says it
+  pub fits-is : (count : ℕ) → count ≡ length table → c .first + c .rows ≤ rowLimit → c .first + c .rows ≤ length views / viewSize
+      → leb (c .first + c .rows) (mapRoom (c .mapped) nulls) ≡ true → c .blocks ≤ blockLimit → leb (c .blocks) count ≡ fits l c
   unfolding fits rowRoom blockRoom
-  fits-is h v m b s =
+  fits-is count e h v m b =
       let g = leb-true (c .first + c .rows) (mapRoom (c .mapped) nulls) m in
-      rw (le-leb (c .first + c .rows) (rowRoom (c .mapped) buffered) (omega arith))
-      (leb-same (c .blocks) (length lens) (c .blocks) (blockRoom buffered) (λ k. omega (arith, length-table starts lens)) (λ k. omega (arith, length-table starts lens)))
+      rw (le-leb (c .first + c .rows) (rowRoom (c .mapped) l) (omega arith))
+      (leb-same (c .blocks) count (c .blocks) (blockRoom l) (λ k. omega arith) (λ k. omega arith))
+
+  -- a row of a column that fits is in the views
+  pub fits-view : (r : ℕ) → fits l c ≡ true → r < c .rows → viewSize * (c .first + r) + viewSize ≤ length views
+  unfolding fits rowRoom
+  fits-view r h k =
+      let f = leb-true (c .first + c .rows) (rowRoom (c .mapped) l) (and-left (leb (c .first + c .rows) (rowRoom (c .mapped) l)) (leb (c .blocks) (blockRoom l)) h) in
+      omega arith
+
+  -- and below the limit
+  pub fits-limit : (r : ℕ) → fits l c ≡ true → r < c .rows → c .first + r < rowLimit
+  unfolding fits rowRoom
+  fits-limit r h k =
+      let f = leb-true (c .first + c .rows) (rowRoom (c .mapped) l) (and-left (leb (c .first + c .rows) (rowRoom (c .mapped) l)) (leb (c .blocks) (blockRoom l)) h) in
+      omega arith
+
+module _ (views bytes starts lens nulls : List ℕ) (c : Column) where
+  abbrev buffered : Lent
+  buffered = lent views bytes starts lens nulls
 
   row-room : fits buffered c ≡ true → c .first + c .rows ≤ min rowLimit (min (length views / 16) (mapRoom (c .mapped) nulls))
   unfolding fits rowRoom

@@ -2,6 +2,7 @@
 use mathlib.Core.Bool.{Bool, true, false, _&&_}
 use mathlib.Core.List.{List, [], _∷_}
 use Prim.Native.Nat.{ℕ, zero, suc, _+_, _*_, _/_, min}
+use denote.Ref.{RefT, now}
 use lib.Dec.{leb}
 use lib.ListN.{length, getD}
 use Rattle.bounds.specs.Bounds.{rowLimit, blockLimit, byteLimit}
@@ -29,6 +30,10 @@ tableOf (s ∷ ss) (n ∷ ns) = block s n ∷ tableOf ss ns
 
 abbrev pub lent : List ℕ → List ℕ → List ℕ → List ℕ → List ℕ → Lent
 lent views bytes starts lens nulls = buffers views bytes (tableOf starts lens) nulls
+
+-- the same of the slices themselves, for contracts
+abbrev pub lentOf : RefT (List ℕ) → RefT (List ℕ) → RefT (List ℕ) → RefT (List ℕ) → RefT (List ℕ) → Lent
+lentOf views bytes starts lens nulls = lent (now views) (now bytes) (now starts) (now lens) (now nulls)
 
 -- the rows that a null map has bits for; a column without a map needs none
 abbrev pub mapRoom : Bool → List ℕ → ℕ

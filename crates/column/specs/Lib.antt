@@ -1,9 +1,11 @@
 pub mod Lent
 pub mod Meaning
+pub mod Spot
 pub mod Truth
 pub mod Laid
 pub mod Room
 pub mod FitLaws
 pub mod ReachLaws
+pub mod SpotLaws
 pub mod TruthLaws
 pub mod LowestLaws

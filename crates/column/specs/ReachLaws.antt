@@ -13,29 +13,36 @@ use Rattle.bounds.specs.Bounds.{byteLimit}
 use Rattle.views.specs.View.{viewSize, shortMost, lengthOf, blockOf, offsetOf, bodyOf, viewAt}
 use Rattle.views.specs.ViewLaws.{body-at}
 use Rattle.column.specs.declared.Block.{Block}
-use Rattle.column.specs.declared.Kind.{Kind}
 use Rattle.column.specs.declared.Reach.the-variants.{Inside, NoBlock, Outside}
 use Rattle.column.specs.Lent.{Lent, block, buffers, lent, blockAt, inData, dataRoom}
 use Rattle.column.specs.Room.{bare}
 use Rattle.column.specs.Meaning.{bytesOf, blocksOf, shown}
-use Rattle.column.specs.Truth.{reachOf, isInside, reachable, isTrue}
+use Rattle.column.specs.declared.Spot.the-variants as spot
+use Rattle.column.specs.Spot.{spotOf, spotIn}
+use Rattle.column.specs.Truth.{reachBy, reachOf, isInside, reachable}
 use Rattle.column.specs.FitLaws.{table-at, block-in-data, in-data-gives, and-left, and-right}
 
 -- ---- test by test, over any table
 
+picked-reach : (t : Bool) (o m : ℕ) → pick t Inside Outside ≡ reachBy (pick t (spot.Data o m) spot.Outside)
+picked-reach true o m = refl
+picked-reach false o m = refl
+
 module _ (l : Lent) (n : ℕ) (v : List ℕ) where
   pub reach-short : lengthOf v ≤ shortMost → Inside ≡ reachOf l n v
-  unfolding reachOf
+  unfolding reachOf spotOf
   reach-short h = rw (le-leb (lengthOf v) shortMost h)
 
   pub reach-no-block : shortMost < lengthOf v → n ≤ blockOf v → NoBlock ≡ reachOf l n v
-  unfolding reachOf
+  unfolding reachOf spotOf
   reach-no-block h g = rw (lt-leb (lengthOf v) shortMost h, le-ltb (blockOf v) n g)
 
   pub reach-long : shortMost < lengthOf v → blockOf v < n
       → pick (inData l (blockAt l (blockOf v)) && leb (offsetOf v + lengthOf v) (blockAt l (blockOf v) .len)) Inside Outside ≡ reachOf l n v
-  unfolding reachOf
-  reach-long h g = rw (lt-leb (lengthOf v) shortMost h, lt-ltb (blockOf v) n g)
+  unfolding reachOf spotOf inData
+  reach-long h g =
+      rw (lt-leb (lengthOf v) shortMost h, lt-ltb (blockOf v) n g)
+      (picked-reach (inData l (blockAt l (blockOf v)) && leb (offsetOf v + lengthOf v) (blockAt l (blockOf v) .len)) (blockAt l (blockOf v) .start + offsetOf v) (lengthOf v))
 
 -- ---- over a table of two number slices; k is the block's number, as the code has it
 
@@ -175,9 +182,9 @@ module _ (views bytes starts lens nulls : List ℕ) (n : ℕ) (v : List ℕ) (s 
 -- ---- the null map isn't asked
 
 module _ (views bytes starts lens nulls : List ℕ) (n : ℕ) (v : List ℕ) where
-  pub reach-bare : reachOf (bare views bytes starts lens) n v ≡ reachOf (lent views bytes starts lens nulls) n v
-  unfolding reachOf inData dataRoom
-  reach-bare = refl
+  pub spot-bare : (at : ℕ) → spotIn (bare views bytes starts lens) n v at ≡ spotIn (lent views bytes starts lens nulls) n v at
+  unfolding dataRoom
+  spot-bare at = refl
 
   pub reachable-bare : reachable (bare views bytes starts lens) n v ≡ reachable (lent views bytes starts lens nulls) n v
   unfolding reachable reachOf inData dataRoom
@@ -186,7 +193,3 @@ module _ (views bytes starts lens nulls : List ℕ) (n : ℕ) (v : List ℕ) whe
   pub shown-bare : shown (blocksOf (bare views bytes starts lens) n) v ≡ shown (blocksOf (lent views bytes starts lens nulls) n) v
   unfolding blocksOf
   shown-bare = refl
-
-  pub true-bare : (k : Kind) → isTrue (bare views bytes starts lens) k n v ≡ isTrue (lent views bytes starts lens nulls) k n v
-  unfolding isTrue reachable reachOf inData dataRoom blocksOf
-  true-bare k = refl

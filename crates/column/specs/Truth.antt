@@ -1,13 +1,13 @@
 -- Which views are reachable, and which are true. Assumes nothing.
 use mathlib.Core.Bool.{Bool, true, false, not, _&&_}
 use mathlib.Core.List.{List, [], _∷_}
-use Prim.Native.Nat.{ℕ, zero, suc, _+_}
-use lib.Dec.{leb, ltb, eqb}
+use Prim.Native.Nat.{ℕ, zero, suc}
+use lib.Dec.{eqb}
 use lib.ListN.{take, drop}
 use Rattle.basis.specs.Pick.{pick}
 use Rattle.order.specs.Order.{same}
 use Rattle.utf8.specs.Table.{wellFormed}
-use Rattle.views.specs.View.{lengthOf, prefixOf, blockOf, offsetOf, bodyOf, isShort}
+use Rattle.views.specs.View.{lengthOf, prefixOf, bodyOf, isShort}
 use Rattle.bounds.specs.Refusals.{refuse}
 use Rattle.bounds.specs.declared.Refusal.the-variants.{BadView}
 use Rattle.bounds.specs.declared.Why.{Why}
@@ -16,16 +16,22 @@ use Rattle.column.specs.declared.Kind.the-variants.{Binary, Text}
 use Rattle.column.specs.declared.Column.{Column}
 use Rattle.column.specs.declared.Reach.{Reach}
 use Rattle.column.specs.declared.Reach.the-variants.{Inside, NoBlock, Outside}
-use Rattle.column.specs.Lent.{Lent, blockAt, inData}
+use Rattle.column.specs.declared.Spot.{Spot}
+use Rattle.column.specs.declared.Spot.the-variants as spot
+use Rattle.column.specs.Lent.{Lent}
+use Rattle.column.specs.Spot.{spotIn}
 use Rattle.column.specs.Meaning.{rowView, blocksOf, shown}
 
--- how far a view reaches over the first n blocks
+-- what stands somewhere is reached
+abbrev pub reachBy : Spot → Reach
+reachBy (spot.View o n) = Inside
+reachBy (spot.Data o n) = Inside
+reachBy spot.NoBlock = NoBlock
+reachBy spot.Outside = Outside
+
+-- how far a view reaches over the first n blocks; the row doesn't matter
 unfoldable pub reachOf : Lent → ℕ → List ℕ → Reach
-reachOf l n v =
-    pick (isShort (lengthOf v)) Inside
-    (pick (ltb (blockOf v) n)
-    (pick (inData l (blockAt l (blockOf v)) && leb (offsetOf v + lengthOf v) (blockAt l (blockOf v) .len)) Inside Outside)
-    NoBlock)
+reachOf l n v = reachBy (spotIn l n v 0)
 
 abbrev pub isInside : Reach → Bool
 isInside Inside = true

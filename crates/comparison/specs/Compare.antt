@@ -1,5 +1,5 @@
 -- Comparison of two rows by their views, null bits ignored. Assumes nothing.
-use mathlib.Core.Bool.{Bool, true, false, not, _&&_}
+use mathlib.Core.Bool.{_&&_}
 use mathlib.Core.List.{List}
 use Prim.Native.Nat.{ℕ, compare, Ordering, Ordering·lt, Ordering·eq, Ordering·gt}
 use lib.Dec.{leb}
@@ -7,23 +7,18 @@ use Rattle.basis.specs.Pick.{pick}
 use Rattle.order.specs.Order.{thenby, cmp}
 use Rattle.order.specs.declared.Order.{Order}
 use Rattle.order.specs.declared.Order.the-variants.{Less, Equal, Greater}
-use Rattle.bounds.specs.declared.Refusal.{Refusal}
-use Rattle.bounds.specs.declared.Refusal.the-variants.{Fit, Row, BadView}
+use Rattle.bounds.specs.Refusals.{numberOf}
+use Rattle.bounds.specs.declared.Why.{Why}
+use Rattle.bounds.specs.declared.Why.the-variants as why
 use Rattle.views.specs.View.{lengthOf, prefixOf, bodyOf, isShort}
 use Rattle.column.specs.declared.Column.{Column}
-use Rattle.column.specs.Lent.{Lent, fits}
+use Rattle.column.specs.Lent.{Lent}
 use Rattle.column.specs.Meaning.{rowView, blocksOf, shown}
-use Rattle.column.specs.Truth.{reachableAt}
+use Rattle.reading.specs.Reading.{whyValue}
 use Rattle.comparison.specs.declared.Verdict.{Verdict}
 use Rattle.comparison.specs.declared.Verdict.the-variants.{Accepted, Left, Right}
 use Rattle.comparison.specs.declared.Compared.{Compared}
 use Rattle.comparison.specs.declared.Compared.the-variants as compared
-
--- whether a second order isn't asked
-abbrev pub decided : Ordering → Bool
-decided Ordering·lt = true
-decided Ordering·eq = false
-decided Ordering·gt = true
 
 -- two short values by their twelve bytes then length; otherwise four bytes, then whole values
 unfoldable pub compareViews : List (List ℕ) → List ℕ → List (List ℕ) → List ℕ → Ordering
@@ -32,24 +27,16 @@ compareViews bs v cs w =
     (thenby (cmp (bodyOf v) (bodyOf w)) (compare (lengthOf v) (lengthOf w)))
     (thenby (cmp (prefixOf v) (prefixOf w)) (cmp (shown bs v) (shown cs w)))
 
-abbrev pub refuseLeftBy : Refusal → Bool → Verdict → Verdict
-refuseLeftBy r true w = Left r
-refuseLeftBy r false w = w
-
-abbrev pub refuseRightBy : Refusal → Bool → Verdict → Verdict
-refuseRightBy r true w = Right r
-refuseRightBy r false w = w
-
--- a number is tried on the left column, then on the right one
-unfoldable pub refuseBoth : Refusal → Bool → Refusal → Bool → Verdict → Verdict
-refuseBoth r a s b w = refuseLeftBy r a (refuseRightBy s b w)
+-- each number is tried on the left column first: the lower number, and of equal ones the left column's
+unfoldable pub bothOf : Why → Why → Verdict
+bothOf why.Accepted why.Accepted = Accepted
+bothOf why.Accepted (why.Refused s) = Right s
+bothOf (why.Refused r) why.Accepted = Left r
+bothOf (why.Refused r) (why.Refused s) = pick (leb (numberOf r) (numberOf s)) (Left r) (Right s)
 
 -- 2, 3, 11
 unfoldable pub whyCompare : Lent → Column → ℕ → Lent → Column → ℕ → Verdict
-whyCompare l c i m d j =
-    refuseBoth Fit (not (fits l c)) Fit (not (fits m d))
-    (refuseBoth Row (leb (c .rows) i) Row (leb (d .rows) j)
-    (refuseBoth (BadView i) (not (reachableAt l c i)) (BadView j) (not (reachableAt m d j)) Accepted))
+whyCompare l c i m d j = bothOf (whyValue l c i) (whyValue m d j)
 
 abbrev pub orderOf : Ordering → Order
 orderOf Ordering·lt = Less

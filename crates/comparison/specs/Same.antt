@@ -3,6 +3,7 @@ use mathlib.Core.Bool.{Bool, true, false, not, _&&_}
 use Prim.Native.Nat.{ℕ, zero, suc}
 use lib.Dec.{eqb}
 use Rattle.order.specs.Order.{same}
+use Rattle.bounds.specs.Refusals.{refuse}
 use Rattle.bounds.specs.declared.Refusal.the-variants.{Fit}
 use Rattle.bounds.specs.declared.Why.{Why}
 use Rattle.bounds.specs.declared.Why.the-variants as why
@@ -14,22 +15,15 @@ use Rattle.comparison.specs.declared.Verdict.{Verdict}
 use Rattle.comparison.specs.declared.Verdict.the-variants.{Accepted, Left, Right}
 use Rattle.comparison.specs.declared.Sameness.{Sameness}
 use Rattle.comparison.specs.declared.Sameness.the-variants as sameness
-use Rattle.comparison.specs.Compare.{refuseBoth}
+use Rattle.comparison.specs.Compare.{bothOf}
 
--- a refusal of a column becomes one of the left or of the right one
-abbrev pub onLeft : Why → Verdict → Verdict
-onLeft why.Accepted w = w
-onLeft (why.Refused r) w = Left r
+-- 2, 11: every row
+unfoldable pub whyAll : Lent → Column → Why
+whyAll l c = refuse Fit (not (fits l c)) (lowest (reachableAt l c) (c .rows) why.Accepted)
 
-abbrev pub onRight : Why → Verdict → Verdict
-onRight why.Accepted w = w
-onRight (why.Refused r) w = Right r
-
--- 2, 11: every row of both, also where the row counts differ
+-- of both, also where the row counts differ
 unfoldable pub whySame : Lent → Column → Lent → Column → Verdict
-whySame l c m d =
-    refuseBoth Fit (not (fits l c)) Fit (not (fits m d))
-    (onLeft (lowest (reachableAt l c) (c .rows) why.Accepted) (onRight (lowest (reachableAt m d) (d .rows) why.Accepted) Accepted))
+whySame l c m d = bothOf (whyAll l c) (whyAll m d)
 
 unfoldable pub alike : Bool → Bool → Bool
 alike true b = b

@@ -10,7 +10,7 @@ use borrow.Author.Tests.{not-false, eq-eqb, ne-eqb}
 use Rattle.order.specs.Order.{same}
 use Rattle.order.specs.OrderLaws.{Tri, tri, below, level, above}
 use Rattle.null_bits.specs.Bits as bits
-use Rattle.bounds.specs.Refusals.{isAccepted}
+use Rattle.bounds.specs.Refusals.{refuse, isAccepted, accepted-both}
 use Rattle.bounds.specs.declared.Refusal.{Refusal}
 use Rattle.bounds.specs.declared.Refusal.the-variants.{Fit}
 use Rattle.bounds.specs.declared.Why.{Why}
@@ -25,9 +25,9 @@ use Rattle.column.specs.LowestLaws.{lowest-good}
 use Rattle.comparison.specs.declared.Verdict.{Verdict}
 use Rattle.comparison.specs.declared.Verdict.the-variants.{Accepted, Left, Right}
 use Rattle.comparison.specs.declared.Sameness.the-variants as sameness
-use Rattle.comparison.specs.Same.{onLeft, onRight, whySame, alike, sameRow, sameRows, sameColumn}
+use Rattle.comparison.specs.Same.{whyAll, whySame, alike, sameRow, sameRows, sameColumn}
 use Rattle.comparison.specs.Readable.{RowsInRoom, AllComparable}
-use Rattle.comparison.specs.VerdictLaws.{passed-both, both-passed}
+use Rattle.comparison.specs.VerdictLaws.{both-accepted}
 
 -- the null map has no part in which rows are reachable
 pub judged-bare : (views bytes starts lens nulls : List ℕ) (c : Column) (n : ℕ) (w : Why)
@@ -40,6 +40,21 @@ pub rows-in-room : (views bytes starts lens nulls : List ℕ) (c : Column) → f
 rows-in-room views bytes starts lens nulls c h =
     let g = fits-gives views bytes starts lens nulls c h in
     record { limit = g .rows; views = g .views; starts = g .starts; lens = g .lens }
+
+module _ (l : Lent) (c : Column) where
+  pub all-unfit : not (fits l c) ≡ true → why.Refused Fit ≡ whyAll l c
+  unfolding whyAll refuse
+  all-unfit h = rw h
+
+  pub all-judged : (w : Why) → not (fits l c) ≡ false → w ≡ lowest (reachableAt l c) (c .rows) why.Accepted → w ≡ whyAll l c
+  unfolding whyAll refuse
+  all-judged w h e = rw h e
+
+  all-reached : isAccepted (whyAll l c) ≡ true → (fits l c ≡ true) × ((r : ℕ) → r < c .rows → reachableAt l c r ≡ true)
+  unfolding whyAll
+  all-reached h =
+      let p = accepted-both Fit (not (fits l c)) _ h in
+      (not-false _ (p .0), lowest-good (reachableAt l c) (c .rows) why.Accepted (p .1) .0)
 
 module _ (l : Lent) (c : Column) (m : Lent) (d : Column) where
   module _ (r : ℕ) (v w : Bool) (hv : v ≡ bits.validAt (l .nulls) (c .mapped) (c .first + r)) (hw : w ≡ bits.validAt (m .nulls) (d .mapped) (d .first + r)) where
@@ -84,42 +99,14 @@ module _ (l : Lent) (c : Column) (m : Lent) (d : Column) where
       by (level q) more = last-false (sameRows l c m d n) (sameRow l c m d n) (rw (← q) e)
       by (above g) more = absurd (omega arith)
 
-  -- the verdict, refusal by refusal
-  module _ (fit : not (fits l c) ≡ false) (fit2 : not (fits m d) ≡ false) (w : Why) (left : w ≡ lowest (reachableAt l c) (c .rows) why.Accepted) where
-    pub left-unreachable : (r : Refusal) → w ≡ why.Refused r → Left r ≡ whySame l c m d
-    unfolding whySame
-    left-unreachable r e = both-passed _ _ _ _ _ _ fit fit2 (rw (← left, e))
-
-    module _ (all : w ≡ why.Accepted) (x : Why) (right : x ≡ lowest (reachableAt m d) (d .rows) why.Accepted) where
-      pub right-unreachable : (r : Refusal) → x ≡ why.Refused r → Right r ≡ whySame l c m d
-      unfolding whySame
-      right-unreachable r e = both-passed _ _ _ _ _ _ fit fit2 (rw (← left, all, ← right, e))
-
-      pub all-reachable : x ≡ why.Accepted → Accepted ≡ whySame l c m d
-      unfolding whySame
-      all-reachable e = both-passed _ _ _ _ _ _ fit fit2 (rw (← left, all, ← right, e))
-
   -- what is known where the question is answered
   pub all-comparable : whySame l c m d ≡ Accepted → AllComparable l c m d
   unfolding whySame
   all-comparable h =
-      let p = passed-both Fit (not (fits l c)) Fit (not (fits m d)) _ h in
-      let q = by-left (lowest (reachableAt l c) (c .rows) why.Accepted) refl (p .2) in
-      let r = by-right (lowest (reachableAt m d) (d .rows) why.Accepted) refl (q .1) in
-      record {
-        fit = not-false _ (p .0);
-        fit2 = not-false _ (p .1);
-        reach = lowest-good (reachableAt l c) (c .rows) why.Accepted (ap isAccepted (q .0)) .0;
-        reach2 = lowest-good (reachableAt m d) (d .rows) why.Accepted (ap isAccepted r) .0;
-      }
-    where
-      by-left : {x : Verdict} (w : Why) → lowest (reachableAt l c) (c .rows) why.Accepted ≡ w → onLeft w x ≡ Accepted → (lowest (reachableAt l c) (c .rows) why.Accepted ≡ why.Accepted) × (x ≡ Accepted)
-      by-left why.Accepted e g = (e, g)
-      by-left (why.Refused r) e g = let z : _≡_ {A = ℕ} 0 1 = cc in absurd (omega arith)
-
-      by-right : (w : Why) → lowest (reachableAt m d) (d .rows) why.Accepted ≡ w → onRight w Accepted ≡ Accepted → lowest (reachableAt m d) (d .rows) why.Accepted ≡ why.Accepted
-      by-right why.Accepted e g = e
-      by-right (why.Refused r) e g = let z : _≡_ {A = ℕ} 0 1 = cc in absurd (omega arith)
+      let p = both-accepted (whyAll l c) (whyAll m d) h in
+      let q = all-reached l c (ap isAccepted (p .0)) in
+      let r = all-reached m d (ap isAccepted (p .1)) in
+      record { fit = q .0; fit2 = r .0; reach = q .1; reach2 = r .1 }
 
   -- the answer by the verdict
   module _ (v : Verdict) (is : v ≡ whySame l c m d) where

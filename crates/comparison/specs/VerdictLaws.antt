@@ -1,65 +1,80 @@
--- A number tried on both columns: which side refuses, and what is known where neither does.
--- Assumes nothing.
-use mathlib.Core.Path.{_≡_, refl}
-use mathlib.Core.Bool.{Bool, true, false, not}
+-- The verdict on two columns by the verdicts on each, and what is known where neither is refused. Assumes nothing.
+use mathlib.Core.Path.{_≡_, refl, sym, ap, ap₂, _∙_}
+use mathlib.Core.Bool.{Bool, true, false, _&&_}
 use mathlib.Core.List.{List}
-use Prim.Native.Nat.{ℕ, _+_, _<_}
+use Prim.Native.Nat.{ℕ, _+_, _-_, _*_, _≤_, _<_, Ordering}
 use native.Mathlib.Omega.{arith}
-use borrow.Author.Tests.{leb-false, not-false}
+use borrow.Author.Tests.{le-leb, lt-leb}
 use lib.Dec.{leb}
+use lib.ListN.{length, take, drop}
+use lib.Seq.{take-all}
+use Rattle.basis.specs.Pick.{pick, part-is}
+use Rattle.bounds.specs.Refusals.{numberOf, isAccepted}
 use Rattle.bounds.specs.declared.Refusal.{Refusal}
-use Rattle.bounds.specs.declared.Refusal.the-variants.{Fit, Row, BadView}
-use Rattle.views.specs.View.{viewAt}
-use Rattle.column.specs.declared.Column.{Column}
-use Rattle.column.specs.Lent.{Lent, lent, fits}
-use Rattle.column.specs.FitLaws.{fits-row}
-use Rattle.column.specs.Room.{bare}
-use Rattle.column.specs.ReachLaws.{reachable-bare}
-use Rattle.column.specs.Meaning.{rowView, blocksOf}
-use Rattle.column.specs.Truth.{reachableAt}
+use Rattle.bounds.specs.declared.Why.{Why}
+use Rattle.bounds.specs.declared.Why.the-variants as why
 use Rattle.order.specs.declared.Order.{Order}
 use Rattle.order.specs.declared.Order.the-variants.{Less, Equal, Greater}
-use Rattle.order.specs.Order.{ordering}
+use Rattle.order.specs.Order.{ordering, thenby, cmp, shortOrder}
+use Rattle.views.specs.View.{viewSize, viewAt, lengthOf, bodyOf, prefixOf, isShort}
+use Rattle.views.specs.ViewLaws.{length-view}
+use Rattle.column.specs.declared.Block.{Block}
+use Rattle.column.specs.declared.Column.{Column}
+use Rattle.column.specs.Lent.{Lent, lent, buffers, fits}
+use Rattle.column.specs.FitLaws.{fits-row, fits-view}
+use Rattle.column.specs.ReachLaws.{reachable-bare}
+use Rattle.column.specs.Meaning.{rowView, blocksOf, shown, shownAt}
+use Rattle.column.specs.Truth.{reachableAt}
+use Rattle.reading.specs.Reading.{whyValue, valueAt}
+use Rattle.reading.specs.ReadingLaws.{value-readable}
+use Rattle.reading.specs.WalkLaws.{value-shown}
 use Rattle.comparison.specs.declared.Compared.the-variants as compared
 use Rattle.comparison.specs.declared.Verdict.{Verdict}
 use Rattle.comparison.specs.declared.Verdict.the-variants.{Accepted, Left, Right}
 use Rattle.comparison.specs.Readable.{Readable, Comparable}
-use Rattle.comparison.specs.Compare.{refuseBoth, whyCompare, compareViews, orderOf, compareRows}
+use Rattle.comparison.specs.Compare.{bothOf, whyCompare, compareViews, orderOf, compareRows}
 
-module _ (r : Refusal) (a : Bool) (s : Refusal) (b : Bool) (w x : Verdict) where
-  pub left-refused : a ≡ true → x ≡ Left r → x ≡ refuseBoth r a s b w
-  unfolding refuseBoth
-  left-refused h e = rw h e
+-- the verdict, where each row's is known
+module _ (w v : Why) where
+  pub verdict-is : (w′ v′ : Why) (r : Verdict) → w ≡ w′ → v ≡ v′ → r ≡ bothOf w′ v′ → r ≡ bothOf w v
+  verdict-is w′ v′ r e f g = rw (e, f) g
 
-  pub right-refused : a ≡ false → b ≡ true → x ≡ Right s → x ≡ refuseBoth r a s b w
-  unfolding refuseBoth
-  right-refused h k e = rw (h, k) e
+  module _ (r s : Refusal) (a b : ℕ) (ew : w ≡ why.Refused r) (ev : v ≡ why.Refused s) (ea : a ≡ numberOf r) (eb : b ≡ numberOf s) where
+    by-number : (t : Bool) → leb a b ≡ t → pick t (Left r) (Right s) ≡ bothOf w v
+    unfolding bothOf
+    by-number t h = verdict-is (why.Refused r) (why.Refused s) (pick t (Left r) (Right s)) ew ev (ap (λ (o : Bool). pick o (Left r) (Right s)) (sym h ∙ ap₂ leb ea eb))
 
-  pub both-passed : a ≡ false → b ≡ false → x ≡ w → x ≡ refuseBoth r a s b w
-  unfolding refuseBoth
-  both-passed h k e = rw (h, k) e
+    pub left-lower : a ≤ b → Left r ≡ bothOf w v
+    left-lower h = by-number true (le-leb a b h)
 
-pub passed-both : (r : Refusal) (a : Bool) (s : Refusal) (b : Bool) (w : Verdict) → refuseBoth r a s b w ≡ Accepted → (a ≡ false) × (b ≡ false) × (w ≡ Accepted)
-unfolding refuseBoth
-passed-both r true s b w h = let z : _≡_ {A = ℕ} 0 1 = cc in absurd (omega arith)
-passed-both r false s true w h = let z : _≡_ {A = ℕ} 0 1 = cc in absurd (omega arith)
-passed-both r false s false w h = (refl, refl, h)
+    pub right-lower : b < a → Right s ≡ bothOf w v
+    right-lower h = by-number false (lt-leb a b h)
+
+-- a call on two columns is accepted where it is on each
+pub both-accepted : (w v : Why) → bothOf w v ≡ Accepted → (w ≡ why.Accepted) × (v ≡ why.Accepted)
+unfolding bothOf
+both-accepted why.Accepted why.Accepted h = (refl, refl)
+both-accepted why.Accepted (why.Refused s) h = let z : _≡_ {A = ℕ} 0 1 = cc in absurd (omega arith)
+both-accepted (why.Refused r) why.Accepted h = let z : _≡_ {A = ℕ} 0 1 = cc in absurd (omega arith)
+both-accepted (why.Refused r) (why.Refused s) h = by (leb (numberOf r) (numberOf s)) h
+  where
+    by : (t : Bool) → pick t (Left r) (Right s) ≡ Accepted → (why.Refused r ≡ why.Accepted) × (why.Refused s ≡ why.Accepted)
+    by true h = let z : _≡_ {A = ℕ} 0 1 = cc in absurd (omega arith)
+    by false h = let z : _≡_ {A = ℕ} 0 1 = cc in absurd (omega arith)
 
 -- what is known of a comparison that is accepted
 pub comparable : (l : Lent) (c : Column) (i : ℕ) (m : Lent) (d : Column) (j : ℕ) → whyCompare l c i m d j ≡ Accepted → Comparable l c i m d j
 unfolding whyCompare
 comparable l c i m d j h =
-    let p = passed-both Fit (not (fits l c)) Fit (not (fits m d)) _ h in
-    let q = passed-both Row (leb (c .rows) i) Row (leb (d .rows) j) _ (p .2) in
-    let r = passed-both (BadView i) (not (reachableAt l c i)) (BadView j) (not (reachableAt m d j)) _ (q .2) in
-    record {
-      fit = not-false _ (p .0);
-      fit2 = not-false _ (p .1);
-      row = leb-false _ _ (q .0);
-      row2 = leb-false _ _ (q .1);
-      reach = not-false _ (r .0);
-      reach2 = not-false _ (r .1);
-    }
+    let p = both-accepted (whyValue l c i) (whyValue m d j) h in
+    let q = value-readable l c i (ap isAccepted (p .0)) in
+    let r = value-readable m d j (ap isAccepted (p .1)) in
+    record { fit = q .fit; fit2 = r .fit; row = q .row; row2 = r .row; reach = q .reach; reach2 = r .reach }
+
+-- the verdict on two rows by where the value of each stands
+pub both-is : (l : Lent) (c : Column) (i : ℕ) (m : Lent) (d : Column) (j : ℕ) (w v : Why) (r : Verdict) → w ≡ whyValue l c i → v ≡ whyValue m d j → r ≡ bothOf w v → r ≡ whyCompare l c i m d j
+unfolding whyCompare
+both-is l c i m d j w v r ew ev er = er ∙ ap₂ bothOf ew ev
 
 -- the answer by the verdict
 order-back : (o : Order) → orderOf (ordering o) ≡ o
@@ -81,10 +96,59 @@ module _ (l : Lent) (c : Column) (i : ℕ) (m : Lent) (d : Column) (j : ℕ) (v 
   unfolding compareRows
   compared-is o e p = rw (← is, e, ← p, order-back o)
 
--- the null map has no part in the blocks
-pub blocks-bare : (views bytes starts lens nulls : List ℕ) (n : ℕ) → blocksOf (bare views bytes starts lens) n ≡ blocksOf (lent views bytes starts lens nulls) n
-unfolding blocksOf
-blocks-bare views bytes starts lens nulls n = refl
+-- a view is the first of itself
+pub view-zero : (v : List ℕ) → length v ≡ viewSize → viewAt v 0 ≡ v
+unfolding viewAt
+view-zero v h = take-all 16 v (omega arith)
+
+-- the sixteen bytes of a row's view
+pub view-part : (views : List ℕ) (at : ℕ) → take (16 * at + 16 - 16 * at) (drop (16 * at) views) ≡ viewAt views at
+unfolding viewAt
+view-part views at = part-is views (16 * at) 16 (16 * at) 16 refl refl
+
+-- the sides of a comparison by views, their lengths as the code has them
+module _ (bs : List (List ℕ)) (v : List ℕ) (cs : List (List ℕ)) (w : List ℕ) (h : length v ≡ viewSize) (g : length w ≡ viewSize)
+    (a b : ℕ) (ea : a ≡ lengthOf (viewAt v 0)) (eb : b ≡ lengthOf (viewAt w 0)) (t : Bool) (et : t ≡ isShort a && isShort b) (o : Ordering) where
+  shorts : isShort (lengthOf v) && isShort (lengthOf w) ≡ t
+  shorts = sym (et ∙ ap₂ (λ (m n : ℕ). isShort m && isShort n) (ea ∙ ap lengthOf (view-zero v h)) (eb ∙ ap lengthOf (view-zero w g)))
+
+  pub short-order : t ≡ true → o ≡ shortOrder v w → o ≡ compareViews bs v cs w
+  unfolding compareViews bodyOf lengthOf shortOrder
+  short-order e p = rw (shorts ∙ e) p
+
+  pub prefix-order : t ≡ false → o ≡ cmp (take 4 (drop 4 v)) (take 4 (drop 4 w)) → thenby o (cmp (shown bs v) (shown cs w)) ≡ compareViews bs v cs w
+  unfolding compareViews prefixOf
+  prefix-order e p = rw (shorts ∙ e, p)
+
+-- two rows whose comparison is accepted, by their views and values
+module _ (views bytes nulls : List ℕ) (table : List Block) (c : Column) (i : ℕ) (views2 bytes2 nulls2 : List ℕ) (table2 : List Block) (d : Column) (j : ℕ)
+    (r : Verdict) (o : Order) (x y v w : List ℕ) where
+  abbrev l : Lent
+  l = buffers views bytes table nulls
+
+  abbrev m : Lent
+  m = buffers views2 bytes2 table2 nulls2
+
+  pub compared-by : r ≡ whyCompare l c i m d j → r ≡ Accepted
+      → (viewSize * (c .first + i) + viewSize ≤ length views → v ≡ viewAt views (c .first + i))
+      → (viewSize * (d .first + j) + viewSize ≤ length views2 → w ≡ viewAt views2 (d .first + j))
+      → x ≡ valueAt l c i → y ≡ valueAt m d j
+      → ((bs cs : List (List ℕ)) → length v ≡ viewSize → length w ≡ viewSize → x ≡ shown bs v → y ≡ shown cs w → ordering o ≡ compareViews bs v cs w)
+      → compared.Is o ≡ compareRows l c i m d j
+  unfolding shownAt
+  compared-by is e f g ex ey order =
+      let k = comparable l c i m d j (sym is ∙ e) in
+      let room = fits-view views bytes nulls table c i (k .fit) (k .row) in
+      let room2 = fits-view views2 bytes2 nulls2 table2 d j (k .fit2) (k .row2) in
+      let bs = blocksOf l (c .blocks) in
+      let cs = blocksOf m (d .blocks) in
+      let ev = f room in
+      let ew = g room2 in
+      let sx = value-shown l c i (record { fit = k .fit; row = k .row; reach = k .reach }) in
+      let sy = value-shown m d j (record { fit = k .fit2; row = k .row2; reach = k .reach2 }) in
+      let by = order bs cs (ap length ev ∙ length-view views (c .first + i) room) (ap length ew ∙ length-view views2 (d .first + j) room2)
+      (ex ∙ sx ∙ ap (shown bs) (sym ev)) (ey ∙ sy ∙ ap (shown cs) (sym ew)) in
+      compared-is l c i m d j r is o e (by ∙ ap₂ (λ (p q : List ℕ). compareViews bs p cs q) ev ew)
 
 -- a row of a column that fits, whose view is reachable, can be read
 pub readable : (views bytes starts lens nulls : List ℕ) (c : Column) (r : ℕ) → fits (lent views bytes starts lens nulls) c ≡ true → r < c .rows

@@ -1,19 +1,25 @@
 // Two rows of two columns in byte order by their views, and whether two columns show the same.
 ghost use mathlib.Core.Path.{_≡_};
 ghost use mathlib.Core.Bool.{_&&_};
+ghost use mathlib.Core.List.{List};
+ghost use Prim.Native.Nat.{ℕ, _+_, _*_, _≤_};
+ghost use lib.ListN.{length};
 ghost use Rattle.order.specs.Order.{ordering};
-ghost use Rattle.views.specs.View.{viewAt, isShort};
-ghost use Rattle.column.specs.Lent.{lent};
+ghost use Rattle.views.specs.View.{viewSize, viewAt, isShort};
+ghost use Rattle.column.specs.declared.Block.{Block};
+ghost use Rattle.column.specs.Lent.{lentOf, buffers};
 ghost use Rattle.column.specs.Room.{bare};
-ghost use Rattle.column.specs.Meaning.{blocksOf};
+ghost use Rattle.column.specs.Meaning.{shown};
+ghost use Rattle.column.specs.Spot.{Sees};
 ghost use Rattle.column.specs.Truth.{reachableAt, lowest};
 ghost use Rattle.bounds.specs.declared.Why.the-variants.{Accepted};
-ghost use Rattle.comparison.specs.Compare.{decided, compareViews, whyCompare, compareRows};
-ghost use Rattle.comparison.specs.Same.{whySame, sameRow, sameRows, sameColumn};
-ghost use Rattle.comparison.specs.Readable.{Readable, RowsInRoom, Comparable, AllComparable};
+ghost use Rattle.comparison.specs.Compare.{bothOf, compareViews, compareRows};
+ghost use Rattle.comparison.specs.Same.{whyAll, sameRow, sameRows, sameColumn};
+ghost use Rattle.comparison.specs.Readable.{RowsInRoom, Comparable, AllComparable};
 use bounds::Refusal;
 use bounds::Why;
 use column::Column;
+use column::Seen;
 use order::Order;
 
 // Why a call on two columns refuses, and on which of them.
@@ -45,93 +51,98 @@ pub fn both_short(len: usize, len2: usize) -> bool
     len2 <= views::SHORT_MOST
 }
 
-// Whether what comes after is asked no more. A test of its own, so that less and greater, which no branch predictor tells apart, aren't branched on.
-fn decides(o: Order) -> bool
-    ensures { λ r. ⌜ r ≡ decided (ordering o) ⌝ }
+// The verdict on two columns by the verdicts on each: the lower number, and of equal ones the left.
+fn verdict_of(w: Why, v: Why) -> Verdict
+    ensures { λ r. ⌜ r ≡ bothOf w v ⌝ }
 {
-    match o {
-        Order::Less => true,
-        Order::Equal => false,
-        Order::Greater => true,
+    match w {
+        Why::Accepted => match v {
+            Why::Accepted => return Verdict::Accepted,
+            Why::Refused(s) => return Verdict::Right(s),
+        },
+        Why::Refused(r) => match v {
+            Why::Accepted => return Verdict::Left(r),
+            Why::Refused(s) => {
+                if bounds::number(r) <= bounds::number(s) {
+                    return Verdict::Left(r);
+                }
+                return Verdict::Right(s);
+            }
+        },
     }
 }
 
-// Two reachable views: short ones by their twelve bytes, then length; otherwise four bytes, then whole values.
-fn compare_at<'a>(
-    views: &'a [u8],
-    bytes: &'a [u8],
-    starts: &[usize],
-    lens: &[usize],
-    blocks: usize,
-    at: usize,
-    views2: &'a [u8],
-    bytes2: &'a [u8],
-    starts2: &[usize],
-    lens2: &[usize],
-    blocks2: usize,
-    at2: usize,
-) -> Order
-    requires { ⌜ Readable (now views) (now bytes) (now starts) (now lens) blocks at × Readable (now views2) (now bytes2) (now starts2) (now lens2) blocks2 at2 ⌝ }
-    ensures { λ r. ⌜ ordering r ≡ compareViews (blocksOf (bare (now (views .entry)) (now (bytes .entry)) (now (starts .entry)) (now (lens .entry))) blocks) (viewAt (now (views .entry)) at) (blocksOf (bare (now (views2 .entry)) (now (bytes2 .entry)) (now (starts2 .entry)) (now (lens2 .entry))) blocks2) (viewAt (now (views2 .entry)) at2) ⌝ }
+// The bytes of a row's view, none where the views have no such row.
+fn view_of<'a>(views: &'a [u8], c: Column, row: usize) -> &'a [u8]
+    ensures { λ r. ⌜ (viewSize * (c .first + row) + viewSize ≤ length (now (views .entry)) → now r ≡ viewAt (now (views .entry)) (c .first + row)) ⌝ }
 {
-    let a = views::VIEW_SIZE * at;
+    let first = c.first;
+    let rows = views.len() / views::VIEW_SIZE;
+    if rows <= first {
+        return &views[0..0];
+    }
+    if rows - first <= row {
+        return &views[0..0];
+    }
+    let a = views::VIEW_SIZE * (first + row);
     let e = a + views::VIEW_SIZE;
-    let v = &views[a..e];
-    let a2 = views::VIEW_SIZE * at2;
-    let e2 = a2 + views::VIEW_SIZE;
-    let w = &views2[a2..e2];
-    if both_short(views::view_len(views, at), views::view_len(views2, at2)) {
+    &views[a..e]
+}
+
+// Two views and the values that they show: short ones by their twelve bytes, then length; otherwise four bytes, then whole values.
+fn order_with<'a>(v: &'a [u8], x: &'a [u8], w: &'a [u8], y: &'a [u8]) -> Order
+    ensures { λ r. ⌜ ((bs cs : List (List ℕ)) → length (now (v .entry)) ≡ viewSize → length (now (w .entry)) ≡ viewSize
+        → now (x .entry) ≡ shown bs (now (v .entry)) → now (y .entry) ≡ shown cs (now (w .entry)) → ordering r ≡ compareViews bs (now (v .entry)) cs (now (w .entry))) ⌝ }
+{
+    if v.len() != views::VIEW_SIZE {
+        return Order::Equal;
+    }
+    if w.len() != views::VIEW_SIZE {
+        return Order::Equal;
+    }
+    if both_short(views::view_len(v, 0), views::view_len(w, 0)) {
         return order::cmp_short(v, w);
     }
     let o = order::cmp_prefix(v, w);
-    if decides(o) {
-        return o;
+    match o {
+        Order::Less => return Order::Less,
+        Order::Greater => return Order::Greater,
+        Order::Equal => return order::cmp(x, y),
     }
-    let x = column::value_part(views, bytes, starts, lens, blocks, at);
-    let y = column::value_part(views2, bytes2, starts2, lens2, blocks2, at2);
-    order::cmp(x, y)
 }
 
-// Why a comparison of row i of one column with row j of another refuses.
-fn why_compare(
-    views: &[u8],
-    bytes: &[u8],
-    starts: &[usize],
-    lens: &[usize],
-    nulls: &[u8],
+// Two rows, by what each sees of its table.
+pub fn compare_with<'a>(
+    views: &'a [u8],
+    bytes: &'a [u8],
+    nulls: &'a [u8],
     c: Column,
     i: usize,
-    views2: &[u8],
-    bytes2: &[u8],
-    starts2: &[usize],
-    lens2: &[usize],
-    nulls2: &[u8],
+    s: Seen,
+    views2: &'a [u8],
+    bytes2: &'a [u8],
+    nulls2: &'a [u8],
     d: Column,
     j: usize,
-) -> Verdict
-    ensures { λ r. ⌜ r ≡ whyCompare (lent (now (views .entry)) (now (bytes .entry)) (now (starts .entry)) (now (lens .entry)) (now (nulls .entry))) c i (lent (now (views2 .entry)) (now (bytes2 .entry)) (now (starts2 .entry)) (now (lens2 .entry)) (now (nulls2 .entry))) d j ⌝ }
+    s2: Seen,
+) -> Compared
+    ensures { λ r. ⌜ ((table table2 : List Block) → Sees table (now (views .entry)) (c .first + i) s → Sees table2 (now (views2 .entry)) (d .first + j) s2
+        → r ≡ compareRows (buffers (now (views .entry)) (now (bytes .entry)) table (now (nulls .entry))) c i (buffers (now (views2 .entry)) (now (bytes2 .entry)) table2 (now (nulls2 .entry))) d j) ⌝ }
 {
-    if !column::fits(views, bytes, starts, lens, nulls, c) {
-        return Verdict::Left(Refusal::Fit);
+    let p = reading::locate_with(views, bytes, nulls, c, i, s);
+    let q = reading::locate_with(views2, bytes2, nulls2, d, j, s2);
+    let why = verdict_of(reading::why_of(p), reading::why_of(q));
+    match why {
+        Verdict::Left(r) => return Compared::Left(r),
+        Verdict::Right(r) => return Compared::Right(r),
+        Verdict::Accepted => {
+            let x = reading::part_of(views, bytes, p);
+            let y = reading::part_of(views2, bytes2, q);
+            let v = view_of(views, c, i);
+            let w = view_of(views2, d, j);
+            return Compared::Is(order_with(v, x, w, y));
+        }
     }
-    if !column::fits(views2, bytes2, starts2, lens2, nulls2, d) {
-        return Verdict::Right(Refusal::Fit);
-    }
-    let rows = c.rows;
-    let rows2 = d.rows;
-    if rows <= i {
-        return Verdict::Left(Refusal::Row);
-    }
-    if rows2 <= j {
-        return Verdict::Right(Refusal::Row);
-    }
-    if !column::reachable_at(views, bytes, starts, lens, c.blocks, c.first + i) {
-        return Verdict::Left(Refusal::BadView(i));
-    }
-    if !column::reachable_at(views2, bytes2, starts2, lens2, d.blocks, d.first + j) {
-        return Verdict::Right(Refusal::BadView(j));
-    }
-    Verdict::Accepted
 }
 
 // Row i of one column against row j of another, null bits ignored.
@@ -151,43 +162,20 @@ pub fn compare<'a>(
     d: Column,
     j: usize,
 ) -> Compared
-    ensures { λ r. ⌜ r ≡ compareRows (lent (now (views .entry)) (now (bytes .entry)) (now (starts .entry)) (now (lens .entry)) (now (nulls .entry))) c i (lent (now (views2 .entry)) (now (bytes2 .entry)) (now (starts2 .entry)) (now (lens2 .entry)) (now (nulls2 .entry))) d j ⌝ }
+    ensures { λ r. ⌜ r ≡ compareRows (lentOf (views .entry) (bytes .entry) (starts .entry) (lens .entry) (nulls .entry)) c i (lentOf (views2 .entry) (bytes2 .entry) (starts2 .entry) (lens2 .entry) (nulls2 .entry)) d j ⌝ }
 {
-    let why = why_compare(
-        views,
-        bytes,
-        starts,
-        lens,
-        nulls,
-        c,
-        i,
-        views2,
-        bytes2,
-        starts2,
-        lens2,
-        nulls2,
-        d,
-        j,
-    );
+    let p = reading::locate(views, bytes, starts, lens, nulls, c, i);
+    let q = reading::locate(views2, bytes2, starts2, lens2, nulls2, d, j);
+    let why = verdict_of(reading::why_of(p), reading::why_of(q));
     match why {
         Verdict::Left(r) => return Compared::Left(r),
         Verdict::Right(r) => return Compared::Right(r),
         Verdict::Accepted => {
-            let o = compare_at(
-                views,
-                bytes,
-                starts,
-                lens,
-                c.blocks,
-                c.first + i,
-                views2,
-                bytes2,
-                starts2,
-                lens2,
-                d.blocks,
-                d.first + j,
-            );
-            return Compared::Is(o);
+            let x = reading::part_of(views, bytes, p);
+            let y = reading::part_of(views2, bytes2, q);
+            let v = view_of(views, c, i);
+            let w = view_of(views2, d, j);
+            return Compared::Is(order_with(v, x, w, y));
         }
     }
 }
@@ -210,39 +198,21 @@ fn judge_rows(views: &[u8], bytes: &[u8], starts: &[usize], lens: &[usize], c: C
     Why::Accepted
 }
 
-// Why the question whether two columns are the same refuses.
-fn why_same(
+// Why the question whether a column is the same as another refuses, of the one.
+fn why_all(
     views: &[u8],
     bytes: &[u8],
     starts: &[usize],
     lens: &[usize],
     nulls: &[u8],
     c: Column,
-    views2: &[u8],
-    bytes2: &[u8],
-    starts2: &[usize],
-    lens2: &[usize],
-    nulls2: &[u8],
-    d: Column,
-) -> Verdict
-    ensures { λ r. ⌜ r ≡ whySame (lent (now (views .entry)) (now (bytes .entry)) (now (starts .entry)) (now (lens .entry)) (now (nulls .entry))) c (lent (now (views2 .entry)) (now (bytes2 .entry)) (now (starts2 .entry)) (now (lens2 .entry)) (now (nulls2 .entry))) d ⌝ }
+) -> Why
+    ensures { λ r. ⌜ r ≡ whyAll (lentOf (views .entry) (bytes .entry) (starts .entry) (lens .entry) (nulls .entry)) c ⌝ }
 {
     if !column::fits(views, bytes, starts, lens, nulls, c) {
-        return Verdict::Left(Refusal::Fit);
+        return Why::Refused(Refusal::Fit);
     }
-    if !column::fits(views2, bytes2, starts2, lens2, nulls2, d) {
-        return Verdict::Right(Refusal::Fit);
-    }
-    let left = judge_rows(views, bytes, starts, lens, c);
-    match left {
-        Why::Refused(r) => return Verdict::Left(r),
-        Why::Accepted => {}
-    }
-    let right = judge_rows(views2, bytes2, starts2, lens2, d);
-    match right {
-        Why::Refused(r) => return Verdict::Right(r),
-        Why::Accepted => return Verdict::Accepted,
-    }
+    judge_rows(views, bytes, starts, lens, c)
 }
 
 // Whether row k of two columns has equal null bits and shows equal values.
@@ -261,8 +231,8 @@ fn same_row<'a>(
     d: Column,
     k: usize,
 ) -> bool
-    requires { ⌜ Comparable (lent (now views) (now bytes) (now starts) (now lens) (now nulls)) c k (lent (now views2) (now bytes2) (now starts2) (now lens2) (now nulls2)) d k ⌝ }
-    ensures { λ r. ⌜ r ≡ sameRow (lent (now (views .entry)) (now (bytes .entry)) (now (starts .entry)) (now (lens .entry)) (now (nulls .entry))) c (lent (now (views2 .entry)) (now (bytes2 .entry)) (now (starts2 .entry)) (now (lens2 .entry)) (now (nulls2 .entry))) d k ⌝ }
+    requires { ⌜ Comparable (lentOf views bytes starts lens nulls) c k (lentOf views2 bytes2 starts2 lens2 nulls2) d k ⌝ }
+    ensures { λ r. ⌜ r ≡ sameRow (lentOf (views .entry) (bytes .entry) (starts .entry) (lens .entry) (nulls .entry)) c (lentOf (views2 .entry) (bytes2 .entry) (starts2 .entry) (lens2 .entry) (nulls2 .entry)) d k ⌝ }
 {
     let valid = null_bits::valid_at(nulls, c.mapped, c.first + k);
     let valid2 = null_bits::valid_at(nulls2, d.mapped, d.first + k);
@@ -289,8 +259,8 @@ fn same_rows<'a>(
     nulls2: &[u8],
     d: Column,
 ) -> bool
-    requires { ⌜ AllComparable (lent (now views) (now bytes) (now starts) (now lens) (now nulls)) c (lent (now views2) (now bytes2) (now starts2) (now lens2) (now nulls2)) d × (c .rows ≡ d .rows) ⌝ }
-    ensures { λ r. ⌜ r ≡ sameRows (lent (now (views .entry)) (now (bytes .entry)) (now (starts .entry)) (now (lens .entry)) (now (nulls .entry))) c (lent (now (views2 .entry)) (now (bytes2 .entry)) (now (starts2 .entry)) (now (lens2 .entry)) (now (nulls2 .entry))) d (c .rows) ⌝ }
+    requires { ⌜ AllComparable (lentOf views bytes starts lens nulls) c (lentOf views2 bytes2 starts2 lens2 nulls2) d × (c .rows ≡ d .rows) ⌝ }
+    ensures { λ r. ⌜ r ≡ sameRows (lentOf (views .entry) (bytes .entry) (starts .entry) (lens .entry) (nulls .entry)) c (lentOf (views2 .entry) (bytes2 .entry) (starts2 .entry) (lens2 .entry) (nulls2 .entry)) d (c .rows) ⌝ }
 {
     let rows = c.rows;
     let mut k = 0;
@@ -332,22 +302,11 @@ pub fn same_column<'a>(
     nulls2: &[u8],
     d: Column,
 ) -> Sameness
-    ensures { λ r. ⌜ r ≡ sameColumn (lent (now (views .entry)) (now (bytes .entry)) (now (starts .entry)) (now (lens .entry)) (now (nulls .entry))) c (lent (now (views2 .entry)) (now (bytes2 .entry)) (now (starts2 .entry)) (now (lens2 .entry)) (now (nulls2 .entry))) d ⌝ }
+    ensures { λ r. ⌜ r ≡ sameColumn (lentOf (views .entry) (bytes .entry) (starts .entry) (lens .entry) (nulls .entry)) c (lentOf (views2 .entry) (bytes2 .entry) (starts2 .entry) (lens2 .entry) (nulls2 .entry)) d ⌝ }
 {
-    let why = why_same(
-        views,
-        bytes,
-        starts,
-        lens,
-        nulls,
-        c,
-        views2,
-        bytes2,
-        starts2,
-        lens2,
-        nulls2,
-        d,
-    );
+    let left = why_all(views, bytes, starts, lens, nulls, c);
+    let right = why_all(views2, bytes2, starts2, lens2, nulls2, d);
+    let why = verdict_of(left, right);
     match why {
         Verdict::Left(r) => return Sameness::Left(r),
         Verdict::Right(r) => return Sameness::Right(r),

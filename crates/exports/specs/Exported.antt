@@ -1,22 +1,24 @@
 -- Columns and answers as the numbers that C and Rust see. Assumes nothing.
 use mathlib.Core.Bool.{Bool, true, false, not}
 use mathlib.Core.List.{List}
-use Prim.Native.Nat.{ℕ, _+_, _*_}
+use Prim.Native.Nat.{ℕ, _+_}
 use lib.Dec.{eqb}
 use lib.ListN.{take, drop, getD}
 use Rattle.basis.specs.Pick.{pick}
 use Rattle.bounds.specs.Refusals.{numberOf, rowOf}
 use Rattle.bounds.specs.declared.Why.{Why}
 use Rattle.bounds.specs.declared.Why.the-variants as why
-use Rattle.views.specs.View.{viewSize, isShort, lengthOf, blockOf, offsetOf}
 use Rattle.order.specs.declared.Order.{Order}
 use Rattle.order.specs.declared.Order.the-variants.{Less, Equal, Greater}
 use Rattle.column.specs.declared.Kind.{Kind}
 use Rattle.column.specs.declared.Kind.the-variants.{Binary, Text}
 use Rattle.column.specs.declared.Column.{Column}
-use Rattle.column.specs.Lent.{Lent, blockAt}
-use Rattle.column.specs.Meaning.{rowView}
-use Rattle.reading.specs.Reading.{whyValue}
+use Rattle.column.specs.declared.Spot.{Spot}
+use Rattle.column.specs.declared.Spot.the-variants as spot
+use Rattle.column.specs.Lent.{Lent}
+use Rattle.reading.specs.declared.Located.{Located}
+use Rattle.reading.specs.declared.Located.the-variants as located
+use Rattle.reading.specs.Reading.{locatedAt}
 use Rattle.comparison.specs.declared.Compared.{Compared}
 use Rattle.comparison.specs.declared.Compared.the-variants as compared
 use Rattle.comparison.specs.declared.Sameness.{Sameness}
@@ -28,7 +30,7 @@ abbrev pub kindOf : Bool → Kind
 kindOf true = Binary
 kindOf false = Text
 
--- a column's five numbers: first row, rows, blocks, 0 for Binary, 0 for no map; a number that is missing is 0
+-- a column's five numbers: first row, rows, blocks, 0 for Binary, 0 for no map
 unfoldable pub columnOf : List ℕ → Column
 columnOf l =
     record { first = getD l 0 0; rows = getD l 1 0; blocks = getD l 2 0; kind = kindOf (eqb (getD l 3 0) 0); mapped = not (eqb (getD l 4 0) 0) }
@@ -61,17 +63,19 @@ sameTold (sameness.Right r) = told (32 + numberOf r) (rowOf r)
 abbrev pub place : ℕ → ℕ → ℕ → ℕ → Place
 place refused buffer offset len = record { refused = refused; buffer = buffer; offset = offset; len = len }
 
--- where the value of a view stands: in the views (buffer 0), behind the length of the row that is counted from row 0, or in the data (1)
-unfoldable pub placeOf : Lent → List ℕ → ℕ → Place
-placeOf l v at =
-    pick (isShort (lengthOf v)) (place 0 0 (viewSize * at + 4) (lengthOf v)) (place 0 1 (blockAt l (blockOf v) .start + offsetOf v) (lengthOf v))
+-- in the views (buffer 0), or in the data (1)
+abbrev pub placeOf : Spot → Place
+placeOf (spot.View o n) = place 0 0 o n
+placeOf (spot.Data o n) = place 0 1 o n
+placeOf spot.NoBlock = place 0 0 0 0
+placeOf spot.Outside = place 0 0 0 0
 
-abbrev pub placeWhen : Why → Place → Place
-placeWhen why.Accepted p = p
-placeWhen (why.Refused r) p = place (numberOf r) 0 0 0
+abbrev pub placeTold : Located → Place
+placeTold (located.At s) = placeOf s
+placeTold (located.Refused r) = place (numberOf r) 0 0 0
 
 unfoldable pub placeAt : Lent → Column → ℕ → Place
-placeAt l c r = placeWhen (whyValue l c r) (placeOf l (rowView l c r) (c .first + r))
+placeAt l c r = placeTold (locatedAt l c r)
 
 -- the bytes that a place names
 unfoldable pub named : Lent → Place → List ℕ

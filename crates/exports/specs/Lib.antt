@@ -1,4 +1,4 @@
 pub mod Exported
 pub mod Parts
-pub mod PartLaws
 pub mod PlaceLaws
+pub mod PartLaws

@@ -1,66 +1,78 @@
--- The place of a row's value names the value's bytes; a place by its numbers. Assumes nothing.
-use mathlib.Core.Path.{_≡_, refl, sym, ap}
-use mathlib.Core.Bool.{Bool, true, false}
+-- The place of a row's value names the value's bytes, as many as it says, and lies in its buffer. Assumes nothing.
+use mathlib.Core.Path.{_≡_, refl, ap, _∙_}
 use mathlib.Core.List.{List, []}
 use Prim.Native.Nat.{ℕ, _+_, _*_, _≤_, _<_}
 use native.Mathlib.Omega.{arith}
-use borrow.Author.Tests.{le-leb, lt-leb, leb-true, leb-false}
-use lib.ListN.{length, getD}
-use Rattle.bounds.specs.Refusals.{isAccepted, ifAccepted}
+use lib.ListN.{length, take, drop, length-drop}
+use lib.Seq.{length-take-le}
+use Rattle.bounds.specs.Bounds.{row-limit-is, byteLimit, byte-limit-is, rowLimit}
+use Rattle.bounds.specs.Refusals.{isAccepted}
 use Rattle.bounds.specs.declared.Why.{Why}
 use Rattle.bounds.specs.declared.Why.the-variants.{Accepted, Refused}
-use Rattle.views.specs.View.{viewSize, shortMost, isShort, lengthOf, blockOf, offsetOf, viewAt}
+use Rattle.views.specs.View.{viewSize, lengthOf, blockOf, viewAt}
 use Rattle.column.specs.declared.Block.{Block}
 use Rattle.column.specs.declared.Column.{Column}
-use Rattle.column.specs.Lent.{Lent, lent, blockAt}
-use Rattle.column.specs.Meaning.{blocksOf, shown, shownAt}
-use Rattle.column.specs.FitLaws.{fits-gives, table-at}
-use Rattle.column.specs.ReachLaws.{shown-short-at, shown-long, reach-gives}
-use Rattle.reading.specs.Reading.{whyValue, valueAt}
+use Rattle.column.specs.declared.Spot.{Spot}
+use Rattle.column.specs.declared.Spot.the-variants as spot
+use Rattle.column.specs.Lent.{Lent, buffers, blockAt, dataRoom}
+use Rattle.column.specs.Spot.{spotIn, bytesAt, Lies}
+use Rattle.column.specs.FitLaws.{fits-limit}
+use Rattle.column.specs.SpotLaws.{Stood, in-views, in-data, no-block, outside, stood}
+use Rattle.reading.specs.declared.Located.{Located}
+use Rattle.reading.specs.declared.Located.the-variants as located
+use Rattle.reading.specs.Reading.{whyValue, locatedBy, locatedAt, valueAt, bytesOf, LiesAt}
 use Rattle.reading.specs.ReadingLaws.{value-readable}
-use Rattle.exports.specs.Exported.{place, placeOf, placeWhen, placeAt, named}
+use Rattle.reading.specs.LocatedLaws.{located-lies, located-bytes}
+use Rattle.exports.specs.declared.Place.{Place}
+use Rattle.exports.specs.Exported.{placeOf, placeTold, placeAt, named}
 
-pub place-short : (l : Lent) (v : List ℕ) (at n : ℕ) → n ≡ lengthOf v → n ≤ shortMost → place 0 0 (viewSize * at + 4) n ≡ placeOf l v at
-unfolding placeOf
-place-short l v at n e h = rw (← e, le-leb n shortMost h)
+module _ (views bytes nulls : List ℕ) (table : List Block) where
+  abbrev l : Lent
+  l = buffers views bytes table nulls
 
-module _ (views bytes starts lens nulls : List ℕ) where
-  abbrev whole : Lent
-  whole = lent views bytes starts lens nulls
+  place-bytes : (x : Located) → named l (placeTold x) ≡ bytesOf views bytes x
+  unfolding named bytesOf bytesAt
+  place-bytes (located.At (spot.View o n)) = refl
+  place-bytes (located.At (spot.Data o n)) = refl
+  place-bytes (located.At spot.NoBlock) = refl
+  place-bytes (located.At spot.Outside) = refl
+  place-bytes (located.Refused r) = refl
 
-  pub place-long : (v : List ℕ) (at k o n : ℕ) → k ≡ blockOf v → o ≡ offsetOf v → n ≡ lengthOf v → shortMost < n → k < length starts → k < length lens
-      → place 0 1 (getD starts k 0 + o) n ≡ placeOf whole v at
-  unfolding placeOf
-  place-long v at k o n p q e h g f =
-      let b : getD starts k 0 ≡ blockAt whole k .start = sym (ap (λ (x : Block). x .start) (table-at starts lens k g f)) in
-      rw (b, p, q, e, lt-leb (lengthOf v) shortMost (omega arith))
+  place-length : (x : Located) → LiesAt views bytes x → length (named l (placeTold x)) ≡ placeTold x .len
+  unfolding named LiesAt Lies
+  place-length (located.At (spot.View o n)) h = length-take-le n (drop o views) (simp length-drop (omega arith))
+  place-length (located.At (spot.Data o n)) h = length-take-le n (drop o bytes) (simp length-drop (omega arith))
+  place-length (located.At spot.NoBlock) h = refl
+  place-length (located.At spot.Outside) h = refl
+  place-length (located.Refused r) h = refl
 
-  -- the place of a row that is accepted names what the row shows
-  shown-here : (c : Column) (r : ℕ) → isAccepted (whyValue whole c r) ≡ true → named whole (placeOf whole (viewAt views (c .first + r)) (c .first + r)) ≡ shownAt whole c r
-  unfolding named placeOf shownAt
-  shown-here c r a = by (isShort (lengthOf (viewAt views (c .first + r)))) refl
-    where
-      v : List ℕ
-      v = viewAt views (c .first + r)
+  module _ (c : Column) (r : ℕ) where
+    -- the place names the value's bytes, as many as it says
+    pub place-named : named l (placeAt l c r) ≡ valueAt l c r
+    unfolding placeAt
+    place-named = place-bytes (locatedAt l c r) ∙ located-bytes views bytes nulls table c r (locatedAt l c r) refl
 
-      by : (t : Bool) → isShort (lengthOf v) ≡ t → named whole (placeOf whole v (c .first + r)) ≡ shown (blocksOf whole (c .blocks)) v
-      by true e = rw e (shown-short-at (blocksOf whole (c .blocks)) views (c .first + r) (leb-true (lengthOf v) shortMost e))
-      by false e =
-          let p = value-readable whole c r a in
-          let g = fits-gives views bytes starts lens nulls c (p .fit) in
-          let long = leb-false (lengthOf v) shortMost e in
-          let span = reach-gives views bytes starts lens nulls (c .blocks) v (g .starts) (g .lens) long (p .reach) in
-          let start : blockAt whole (blockOf v) .start ≡ getD starts (blockOf v) 0 = ap (λ (x : Block). x .start) (table-at starts lens (blockOf v) (omega arith) (omega arith)) in
-          rw (e, start) (shown-long views bytes starts lens nulls (c .blocks) v (g .starts) (g .lens) long (p .reach))
+    pub named-length : length (named l (placeAt l c r)) ≡ placeAt l c r .len
+    unfolding placeAt
+    named-length = place-length (locatedAt l c r) (located-lies views bytes nulls table c r (locatedAt l c r) refl)
 
-  -- the place names the value's bytes
-  pub place-named : (c : Column) (r : ℕ) → named whole (placeAt whole c r) ≡ valueAt whole c r
-  unfolding named placeAt valueAt
-  place-named c r = by (whyValue whole c r) refl
-    where
-      v : List ℕ
-      v = viewAt views (c .first + r)
+    -- no part of a place is past the byte limit
+    pub place-ends : (p : Place) → p ≡ placeAt l c r → p .offset + p .len ≤ byteLimit
+    unfolding placeAt locatedAt dataRoom
+    place-ends p e = rw e (by (whyValue l c r) refl)
+      where
+        view : List ℕ
+        view = viewAt views (c .first + r)
 
-      by : (w : Why) → whyValue whole c r ≡ w → named whole (placeWhen w (placeOf whole v (c .first + r))) ≡ ifAccepted w (shownAt whole c r) []
-      by Accepted e = shown-here c r (rw e)
-      by (Refused x) e = refl
+        at-spot : c .first + r < rowLimit → (s : Spot) → Stood (dataRoom l) (c .blocks) (blockAt l (blockOf view)) view (c .first + r) s → placeOf s .offset + placeOf s .len ≤ byteLimit
+        at-spot h (spot.View o n) (in-views f) = omega (arith, row-limit-is, byte-limit-is)
+        at-spot h (spot.Data o n) (in-data a b d g) = omega arith
+        at-spot h spot.NoBlock (no-block a b) = omega arith
+        at-spot h spot.Outside (outside a b) = omega arith
+
+        by : (w : Why) → whyValue l c r ≡ w
+            → placeTold (locatedBy w (spotIn l (c .blocks) view (c .first + r))) .offset + placeTold (locatedBy w (spotIn l (c .blocks) view (c .first + r))) .len ≤ byteLimit
+        by Accepted q =
+            let g = value-readable l c r (ap isAccepted q) in
+            at-spot (fits-limit views bytes nulls table c r (g .fit) (g .row)) (spotIn l (c .blocks) view (c .first + r)) (stood (dataRoom l) (c .blocks) (blockAt l (blockOf view)) view (c .first + r))
+        by (Refused z) q = omega arith

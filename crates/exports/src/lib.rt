@@ -1,22 +1,20 @@
 // Columns for C and Rust: reading, the check, comparison and same column by numbers and lent slices. include/tambuyeel.h says the same for C.
 ghost use mathlib.Core.Path.{_≡_};
-ghost use lib.ListN.{getD};
 ghost use Rattle.bounds.specs.Refusals.{whyNumber};
-ghost use Rattle.views.specs.View.{viewAt};
-ghost use Rattle.column.specs.Lent.{lent};
-ghost use Rattle.column.specs.Room.{bare};
-ghost use Rattle.comparison.specs.Readable.{Readable};
+ghost use Rattle.column.specs.Lent.{lentOf};
 ghost use Rattle.reading.specs.Reading.{whyValue};
 ghost use Rattle.validity.specs.Check.{whyInvalid};
 ghost use Rattle.comparison.specs.Compare.{compareRows};
 ghost use Rattle.comparison.specs.Same.{sameColumn};
-ghost use Rattle.exports.specs.Exported.{columnOf, whyTold, orderNumber, comparedNumber, sameTold, placeOf, placeAt};
+ghost use Rattle.exports.specs.Exported.{columnOf, whyTold, orderNumber, comparedNumber, sameTold, placeOf, placeTold, placeAt};
 use bounds::Why;
 use column::Column;
 use column::Kind;
+use column::Spot;
 use comparison::Compared;
 use comparison::Sameness;
 use order::Order;
+use reading::Located;
 
 pub mod parts;
 
@@ -51,31 +49,22 @@ pub struct Run {
     pub rows: usize,
 }
 
-// The number of a place, 0 past the end.
-fn number_at(l: &[usize], k: usize) -> usize
-    ensures { λ r. ⌜ r ≡ getD (now (l .entry)) k 0 ⌝ }
-{
-    if k < l.len() {
-        return l[k];
-    }
-    0
-}
-
 // A column by its five numbers.
-pub fn column_of(l: &[usize]) -> Column
+pub fn column_of(l: &[usize; 5]) -> Column
     ensures { λ r. ⌜ r ≡ columnOf (now (l .entry)) ⌝ }
 {
-    let first = number_at(l, 0);
-    let rows = number_at(l, 1);
-    let blocks = number_at(l, 2);
-    let mapped = number_at(l, 4) != 0;
-    if number_at(l, 3) == 0 {
+    let first = l[0];
+    let rows = l[1];
+    let blocks = l[2];
+    let kind = l[3];
+    let map = l[4];
+    if kind == 0 {
         return Column {
             first,
             rows,
             blocks,
             kind: Kind::Binary,
-            mapped,
+            mapped: map != 0,
         };
     }
     Column {
@@ -83,11 +72,11 @@ pub fn column_of(l: &[usize]) -> Column
         rows,
         blocks,
         kind: Kind::Text,
-        mapped,
+        mapped: map != 0,
     }
 }
 
-fn told_why(w: Why) -> Told
+pub fn told_why(w: Why) -> Told
     ensures { λ r. ⌜ r ≡ whyTold w ⌝ }
 {
     match w {
@@ -144,10 +133,10 @@ pub extern "C" fn tambuyeel_why_value(
     starts: &[usize],
     lens: &[usize],
     nulls: &[u8],
-    column: &[usize],
+    column: &[usize; 5],
     row: usize,
 ) -> u8
-    ensures { λ r. ⌜ r ≡ whyNumber (whyValue (lent (now (views .entry)) (now (bytes .entry)) (now (starts .entry)) (now (lens .entry)) (now (nulls .entry))) (columnOf (now (column .entry))) row) ⌝ }
+    ensures { λ r. ⌜ r ≡ whyNumber (whyValue (lentOf (views .entry) (bytes .entry) (starts .entry) (lens .entry) (nulls .entry)) (columnOf (now (column .entry))) row) ⌝ }
 {
     bounds::why_number(reading::why_value(
         views,
@@ -168,9 +157,9 @@ pub extern "C" fn tambuyeel_check<'a>(
     starts: &[usize],
     lens: &[usize],
     nulls: &[u8],
-    column: &[usize],
+    column: &[usize; 5],
 ) -> Told
-    ensures { λ r. ⌜ r ≡ whyTold (whyInvalid (lent (now (views .entry)) (now (bytes .entry)) (now (starts .entry)) (now (lens .entry)) (now (nulls .entry))) (columnOf (now (column .entry)))) ⌝ }
+    ensures { λ r. ⌜ r ≡ whyTold (whyInvalid (lentOf (views .entry) (bytes .entry) (starts .entry) (lens .entry) (nulls .entry)) (columnOf (now (column .entry)))) ⌝ }
 {
     told_why(validity::check(views, bytes, starts, lens, nulls, column_of(column)))
 }
@@ -183,17 +172,17 @@ pub extern "C" fn tambuyeel_compare<'a>(
     starts: &[usize],
     lens: &[usize],
     nulls: &[u8],
-    column: &[usize],
+    column: &[usize; 5],
     i: usize,
     views2: &'a [u8],
     bytes2: &'a [u8],
     starts2: &[usize],
     lens2: &[usize],
     nulls2: &[u8],
-    column2: &[usize],
+    column2: &[usize; 5],
     j: usize,
 ) -> u64
-    ensures { λ r. ⌜ r ≡ comparedNumber (compareRows (lent (now (views .entry)) (now (bytes .entry)) (now (starts .entry)) (now (lens .entry)) (now (nulls .entry))) (columnOf (now (column .entry))) i (lent (now (views2 .entry)) (now (bytes2 .entry)) (now (starts2 .entry)) (now (lens2 .entry)) (now (nulls2 .entry))) (columnOf (now (column2 .entry))) j) ⌝ }
+    ensures { λ r. ⌜ r ≡ comparedNumber (compareRows (lentOf (views .entry) (bytes .entry) (starts .entry) (lens .entry) (nulls .entry)) (columnOf (now (column .entry))) i (lentOf (views2 .entry) (bytes2 .entry) (starts2 .entry) (lens2 .entry) (nulls2 .entry)) (columnOf (now (column2 .entry))) j) ⌝ }
 {
     let c = column_of(column);
     let d = column_of(column2);
@@ -223,15 +212,15 @@ pub extern "C" fn tambuyeel_same_column<'a>(
     starts: &[usize],
     lens: &[usize],
     nulls: &[u8],
-    column: &[usize],
+    column: &[usize; 5],
     views2: &'a [u8],
     bytes2: &'a [u8],
     starts2: &[usize],
     lens2: &[usize],
     nulls2: &[u8],
-    column2: &[usize],
+    column2: &[usize; 5],
 ) -> Told
-    ensures { λ r. ⌜ r ≡ sameTold (sameColumn (lent (now (views .entry)) (now (bytes .entry)) (now (starts .entry)) (now (lens .entry)) (now (nulls .entry))) (columnOf (now (column .entry))) (lent (now (views2 .entry)) (now (bytes2 .entry)) (now (starts2 .entry)) (now (lens2 .entry)) (now (nulls2 .entry))) (columnOf (now (column2 .entry)))) ⌝ }
+    ensures { λ r. ⌜ r ≡ sameTold (sameColumn (lentOf (views .entry) (bytes .entry) (starts .entry) (lens .entry) (nulls .entry)) (columnOf (now (column .entry))) (lentOf (views2 .entry) (bytes2 .entry) (starts2 .entry) (lens2 .entry) (nulls2 .entry)) (columnOf (now (column2 .entry)))) ⌝ }
 {
     let c = column_of(column);
     let d = column_of(column2);
@@ -251,34 +240,48 @@ pub extern "C" fn tambuyeel_same_column<'a>(
     ))
 }
 
-// Where the value of a reachable view stands.
-fn place_of(
-    views: &[u8],
-    bytes: &[u8],
-    starts: &[usize],
-    lens: &[usize],
-    blocks: usize,
-    at: usize,
-) -> Place
-    requires { ⌜ Readable (now views) (now bytes) (now starts) (now lens) blocks at ⌝ }
-    ensures { λ r. ⌜ r ≡ placeOf (bare (now (views .entry)) (now (bytes .entry)) (now (starts .entry)) (now (lens .entry))) (viewAt (now (views .entry)) at) at ⌝ }
+fn place_of(s: Spot) -> Place
+    ensures { λ r. ⌜ r ≡ placeOf s ⌝ }
 {
-    let len = views::view_len(views, at);
-    if len <= views::SHORT_MOST {
-        return Place {
+    match s {
+        Spot::View(a, n) => return Place {
             refused: 0,
             buffer: 0,
-            offset: views::VIEW_SIZE * at + 4,
-            len,
-        };
+            offset: a,
+            len: n,
+        },
+        Spot::Data(a, n) => return Place {
+            refused: 0,
+            buffer: 1,
+            offset: a,
+            len: n,
+        },
+        Spot::NoBlock => return Place {
+            refused: 0,
+            buffer: 0,
+            offset: 0,
+            len: 0,
+        },
+        Spot::Outside => return Place {
+            refused: 0,
+            buffer: 0,
+            offset: 0,
+            len: 0,
+        },
     }
-    let k = views::view_block(views, at);
-    let offset = starts[k] + views::view_offset(views, at);
-    Place {
-        refused: 0,
-        buffer: 1,
-        offset,
-        len,
+}
+
+pub fn told_place(l: Located) -> Place
+    ensures { λ r. ⌜ r ≡ placeTold l ⌝ }
+{
+    match l {
+        Located::At(s) => return place_of(s),
+        Located::Refused(r) => return Place {
+            refused: bounds::number(r) as u64,
+            buffer: 0,
+            offset: 0,
+            len: 0,
+        },
     }
 }
 
@@ -290,20 +293,11 @@ pub extern "C" fn tambuyeel_value(
     starts: &[usize],
     lens: &[usize],
     nulls: &[u8],
-    column: &[usize],
+    column: &[usize; 5],
     row: usize,
 ) -> Place
-    ensures { λ r. ⌜ r ≡ placeAt (lent (now (views .entry)) (now (bytes .entry)) (now (starts .entry)) (now (lens .entry)) (now (nulls .entry))) (columnOf (now (column .entry))) row ⌝ }
+    ensures { λ r. ⌜ r ≡ placeAt (lentOf (views .entry) (bytes .entry) (starts .entry) (lens .entry) (nulls .entry)) (columnOf (now (column .entry))) row ⌝ }
 {
     let c = column_of(column);
-    let why = reading::why_value(views, bytes, starts, lens, nulls, c, row);
-    match why {
-        Why::Refused(r) => return Place {
-            refused: bounds::number(r) as u64,
-            buffer: 0,
-            offset: 0,
-            len: 0,
-        },
-        Why::Accepted => return place_of(views, bytes, starts, lens, c.blocks, c.first + row),
-    }
+    told_place(reading::locate(views, bytes, starts, lens, nulls, c, row))
 }

@@ -1,6 +1,6 @@
 // A row's prefix, suffix, length and null bit, the nulls of a run, slices and totals, for C and Rust.
 ghost use mathlib.Core.Path.{_≡_};
-ghost use Rattle.column.specs.Lent.{lent};
+ghost use Rattle.column.specs.Lent.{lentOf};
 ghost use Rattle.reading.specs.Reading as spec;
 ghost use Rattle.exports.specs.Exported.{columnOf, placeAt};
 ghost use Rattle.exports.specs.Parts.{numberTold, bitTold, sliceTold, prefixPlace, suffixPlace};
@@ -70,10 +70,10 @@ pub extern "C" fn tambuyeel_length(
     starts: &[usize],
     lens: &[usize],
     nulls: &[u8],
-    column: &[usize],
+    column: &[usize; 5],
     row: usize,
 ) -> Counted
-    ensures { λ r. ⌜ r ≡ numberTold (spec.lengthAt (lent (now (views .entry)) (now (bytes .entry)) (now (starts .entry)) (now (lens .entry)) (now (nulls .entry))) (columnOf (now (column .entry))) row) ⌝ }
+    ensures { λ r. ⌜ r ≡ numberTold (spec.lengthAt (lentOf (views .entry) (bytes .entry) (starts .entry) (lens .entry) (nulls .entry)) (columnOf (now (column .entry))) row) ⌝ }
 {
     told_number(reading::length(
         views,
@@ -94,10 +94,10 @@ pub extern "C" fn tambuyeel_null_bit(
     starts: &[usize],
     lens: &[usize],
     nulls: &[u8],
-    column: &[usize],
+    column: &[usize; 5],
     row: usize,
 ) -> Counted
-    ensures { λ r. ⌜ r ≡ bitTold (spec.bitOf (lent (now (views .entry)) (now (bytes .entry)) (now (starts .entry)) (now (lens .entry)) (now (nulls .entry))) (columnOf (now (column .entry))) row) ⌝ }
+    ensures { λ r. ⌜ r ≡ bitTold (spec.bitOf (lentOf (views .entry) (bytes .entry) (starts .entry) (lens .entry) (nulls .entry)) (columnOf (now (column .entry))) row) ⌝ }
 {
     told_bit(reading::null_bit(
         views,
@@ -118,11 +118,11 @@ pub extern "C" fn tambuyeel_null_run(
     starts: &[usize],
     lens: &[usize],
     nulls: &[u8],
-    column: &[usize],
+    column: &[usize; 5],
     start: usize,
     count: usize,
 ) -> Counted
-    ensures { λ r. ⌜ r ≡ numberTold (spec.nullRun (lent (now (views .entry)) (now (bytes .entry)) (now (starts .entry)) (now (lens .entry)) (now (nulls .entry))) (columnOf (now (column .entry))) start count) ⌝ }
+    ensures { λ r. ⌜ r ≡ numberTold (spec.nullRun (lentOf (views .entry) (bytes .entry) (starts .entry) (lens .entry) (nulls .entry)) (columnOf (now (column .entry))) start count) ⌝ }
 {
     told_number(reading::null_run(
         views,
@@ -144,11 +144,11 @@ pub extern "C" fn tambuyeel_slice(
     starts: &[usize],
     lens: &[usize],
     nulls: &[u8],
-    column: &[usize],
+    column: &[usize; 5],
     start: usize,
     count: usize,
 ) -> Run
-    ensures { λ r. ⌜ r ≡ sliceTold (spec.slice (lent (now (views .entry)) (now (bytes .entry)) (now (starts .entry)) (now (lens .entry)) (now (nulls .entry))) (columnOf (now (column .entry))) start count) ⌝ }
+    ensures { λ r. ⌜ r ≡ sliceTold (spec.slice (lentOf (views .entry) (bytes .entry) (starts .entry) (lens .entry) (nulls .entry)) (columnOf (now (column .entry))) start count) ⌝ }
 {
     told_slice(reading::slice(
         views,
@@ -170,9 +170,9 @@ pub extern "C" fn tambuyeel_total_bytes_len(
     starts: &[usize],
     lens: &[usize],
     nulls: &[u8],
-    column: &[usize],
+    column: &[usize; 5],
 ) -> Counted
-    ensures { λ r. ⌜ r ≡ numberTold (spec.totalBytesLen (lent (now (views .entry)) (now (bytes .entry)) (now (starts .entry)) (now (lens .entry)) (now (nulls .entry))) (columnOf (now (column .entry)))) ⌝ }
+    ensures { λ r. ⌜ r ≡ numberTold (spec.totalBytesLen (lentOf (views .entry) (bytes .entry) (starts .entry) (lens .entry) (nulls .entry)) (columnOf (now (column .entry)))) ⌝ }
 {
     told_number(reading::total_bytes_len(
         views,
@@ -192,9 +192,9 @@ pub extern "C" fn tambuyeel_total_buffer_bytes_used(
     starts: &[usize],
     lens: &[usize],
     nulls: &[u8],
-    column: &[usize],
+    column: &[usize; 5],
 ) -> Counted
-    ensures { λ r. ⌜ r ≡ numberTold (spec.totalBufferBytesUsed (lent (now (views .entry)) (now (bytes .entry)) (now (starts .entry)) (now (lens .entry)) (now (nulls .entry))) (columnOf (now (column .entry)))) ⌝ }
+    ensures { λ r. ⌜ r ≡ numberTold (spec.totalBufferBytesUsed (lentOf (views .entry) (bytes .entry) (starts .entry) (lens .entry) (nulls .entry)) (columnOf (now (column .entry)))) ⌝ }
 {
     told_number(reading::total_buffer_bytes_used(
         views,
@@ -214,13 +214,14 @@ pub extern "C" fn tambuyeel_prefix(
     starts: &[usize],
     lens: &[usize],
     nulls: &[u8],
-    column: &[usize],
+    column: &[usize; 5],
     row: usize,
     n: usize,
 ) -> Place
-    ensures { λ r. ⌜ r ≡ prefixPlace n (placeAt (lent (now (views .entry)) (now (bytes .entry)) (now (starts .entry)) (now (lens .entry)) (now (nulls .entry))) (columnOf (now (column .entry))) row) ⌝ }
+    ensures { λ r. ⌜ r ≡ prefixPlace n (placeAt (lentOf (views .entry) (bytes .entry) (starts .entry) (lens .entry) (nulls .entry)) (columnOf (now (column .entry))) row) ⌝ }
 {
-    let p = crate::tambuyeel_value(views, bytes, starts, lens, nulls, column, row);
+    let c = crate::column_of(column);
+    let p = crate::told_place(reading::locate(views, bytes, starts, lens, nulls, c, row));
     if p.len < n {
         return Place {
             refused: p.refused,
@@ -245,13 +246,14 @@ pub extern "C" fn tambuyeel_suffix(
     starts: &[usize],
     lens: &[usize],
     nulls: &[u8],
-    column: &[usize],
+    column: &[usize; 5],
     row: usize,
     n: usize,
 ) -> Place
-    ensures { λ r. ⌜ r ≡ suffixPlace n (placeAt (lent (now (views .entry)) (now (bytes .entry)) (now (starts .entry)) (now (lens .entry)) (now (nulls .entry))) (columnOf (now (column .entry))) row) ⌝ }
+    ensures { λ r. ⌜ r ≡ suffixPlace n (placeAt (lentOf (views .entry) (bytes .entry) (starts .entry) (lens .entry) (nulls .entry)) (columnOf (now (column .entry))) row) ⌝ }
 {
-    let p = crate::tambuyeel_value(views, bytes, starts, lens, nulls, column, row);
+    let c = crate::column_of(column);
+    let p = crate::told_place(reading::locate(views, bytes, starts, lens, nulls, c, row));
     if p.len < n {
         return Place {
             refused: p.refused,

@@ -15,7 +15,7 @@ use Rattle.showing.specs.Shows.{Shows, shows-rows, shows-row, shows-value, show
 use Rattle.showing.specs.Row.{Row}
 use Rattle.showing.specs.Padded.{rows-compare}
 use Rattle.order.specs.Order.{cmp}
-use Rattle.comparison.specs.Compare.{refuseBoth, whyCompare, compareViews, compareRows, orderOf}
+use Rattle.comparison.specs.Compare.{bothOf, whyCompare, compareViews, compareRows, orderOf}
 use Rattle.comparison.specs.declared.Compared.the-variants as compared
 use Rattle.compaction.proofs.Compacted.{compacted-shows}
 use Rattle.reading.specs.Reading.{whyRun, whyRow, whyValue, valueAt, bitOf, bitWhen}
@@ -89,17 +89,13 @@ module _ (xs ys : List Cell) {l : Lent} {c : Column} {m : Lent} {d : Column}
     (s : Shows l c (map bytesIn xs) (map validIn xs)) (t : Shows m d (map bytesIn ys) (map validIn ys)) where
   compare-shown : (i j : ℕ) → i < length xs → j < length ys
       → compareRows l c i m d j ≡ compared.Is (orderOf (cmp (getD xs i no·value .bytes) (getD ys j no·value .bytes)))
-  unfolding compareRows whyCompare refuseBoth
+  unfolding compareRows whyCompare bothOf
   compare-shown i j h k =
       let p : i < c .rows = omega (arith, rows-shown xs s) in
       let q : j < d .rows = omega (arith, rows-shown ys t) in
       rw (
-        s .fitted,
-        t .fitted,
-        lt-leb (c .rows) i p,
-        lt-leb (d .rows) j q,
-        shows-reach s i p,
-        shows-reach t j q,
+        why-shown xs s i h,
+        why-shown ys t j k,
         compare-rows (shows-row s i p) (shows-row t j q),
         cell-bytes xs i,
         cell-bytes ys j,

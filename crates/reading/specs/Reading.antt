@@ -14,7 +14,11 @@ use Rattle.views.specs.View.{lengthOf, isShort}
 use Rattle.column.specs.declared.Column.{Column}
 use Rattle.column.specs.Lent.{Lent, fits}
 use Rattle.column.specs.Meaning.{rowView, shownAt, validAt}
-use Rattle.column.specs.Truth.{reachableAt}
+use Rattle.column.specs.declared.Spot.{Spot}
+use Rattle.column.specs.Spot.{spotIn, bytesAt, pointsTo, further, Lies}
+use Rattle.column.specs.Truth.{reachBy, isInside, reachableAt}
+use Rattle.reading.specs.declared.Located.{Located}
+use Rattle.reading.specs.declared.Located.the-variants as located
 use Rattle.reading.specs.declared.Number.{Number}
 use Rattle.reading.specs.declared.Number.the-variants as number
 use Rattle.reading.specs.declared.Bit.{Bit}
@@ -34,13 +38,46 @@ whyRun l c start count = refuse Fit (not (fits l c)) (refuse Row (ltb (c .rows) 
 unfoldable pub whyRow : Lent → Column → ℕ → Why
 whyRow l c r = whyRun l c r 1
 
+-- 11, by where the value of row r stands
+unfoldable pub whyReach : ℕ → Spot → Why
+whyReach r s = refuse (BadView r) (not (isInside (reachBy s))) Accepted
+
 -- 2, 3, 11
 unfoldable pub whyValue : Lent → Column → ℕ → Why
 whyValue l c r = refuse Fit (not (fits l c)) (refuse Row (leb (c .rows) r) (refuse (BadView r) (not (reachableAt l c r)) Accepted))
 
+abbrev pub locatedBy : Why → Spot → Located
+locatedBy Accepted s = located.At s
+locatedBy (Refused r) s = located.Refused r
+
+-- where a row's value stands, or why it is refused
+unfoldable pub locatedAt : Lent → Column → ℕ → Located
+locatedAt l c r = locatedBy (whyValue l c r) (spotIn l (c .blocks) (rowView l c r) (c .first + r))
+
+-- of a value that was looked for: why it is refused, its bytes, where that part is, and that it lies in its slice
+abbrev pub whyOf : Located → Why
+whyOf (located.At s) = Accepted
+whyOf (located.Refused r) = Refused r
+
+unfoldable pub bytesOf : List ℕ → List ℕ → Located → List ℕ
+bytesOf views bytes (located.At s) = bytesAt views bytes s
+bytesOf views bytes (located.Refused r) = []
+
+unfoldable pub pointsOf : ℕ × ℕ → ℕ × ℕ → Located → ℕ × ℕ
+pointsOf views bytes (located.At s) = pointsTo views bytes s
+pointsOf views bytes (located.Refused r) = further views 0
+
+unfoldable pub LiesAt : List ℕ → List ℕ → Located → Type 0
+LiesAt views bytes (located.At s) = Lies views bytes s
+LiesAt views bytes (located.Refused r) = Unit {0}
+
 -- a row's value, empty where it is refused
 unfoldable pub valueAt : Lent → Column → ℕ → List ℕ
 valueAt l c r = ifAccepted (whyValue l c r) (shownAt l c r) []
+
+-- which part that is, by where the views and the data are
+unfoldable pub pointsAt : Lent → Column → ℕ → ℕ × ℕ → ℕ × ℕ → ℕ × ℕ
+pointsAt l c r views bytes = pointsOf views bytes (locatedAt l c r)
 
 -- the first n bytes, and the last n: none where there are fewer
 unfoldable pub prefixOf : ℕ → List ℕ → List ℕ
@@ -48,6 +85,10 @@ prefixOf n x = pick (leb n (length x)) (take n x) []
 
 unfoldable pub suffixOf : ℕ → List ℕ → List ℕ
 suffixOf n x = pick (leb n (length x)) (drop (length x - n) x) []
+
+-- how far into a value its last n bytes begin
+unfoldable pub skipOf : ℕ → List ℕ → ℕ
+skipOf n x = pick (leb n (length x)) (length x - n) 0
 
 -- of what a row's value is, which is empty where it is refused
 unfoldable pub prefixAt : Lent → Column → ℕ → ℕ → List ℕ

@@ -1,9 +1,9 @@
 -- What an accepted call knows of its column and row, and what a call answers by its verdict. Assumes nothing.
-use mathlib.Core.Path.{_≡_, refl}
+use mathlib.Core.Path.{_≡_, refl, ap, ap₂, _∙_}
 use mathlib.Core.Bool.{Bool, true, false, not}
 use mathlib.Core.List.{List, []}
 use Prim.Native.Nat.{ℕ, _+_, _-_, _≤_, _<_}
-use native.Mathlib.Nat.{sub-zero}
+use native.Mathlib.Nat.{sub-zero, zero-add, add-comm}
 use native.Mathlib.Omega.{arith}
 use borrow.Author.Tests.{le-leb, lt-leb, lt-ltb, le-ltb, leb-false, ltb-false, not-false}
 use lib.Dec.{leb, ltb}
@@ -16,13 +16,14 @@ use Rattle.bounds.specs.declared.Why.{Why}
 use Rattle.bounds.specs.declared.Why.the-variants.{Accepted, Refused}
 use Rattle.column.specs.declared.Column.{Column}
 use Rattle.column.specs.Lent.{Lent, fits}
+use Rattle.column.specs.Spot.{further}
 use Rattle.column.specs.Truth.{reachableAt}
 use Rattle.reading.specs.declared.Number.the-variants as number
 use Rattle.reading.specs.declared.Bit.the-variants as bit
 use Rattle.reading.specs.declared.Sliced.the-variants as sliced
 use Rattle.reading.specs.declared.Cursor.{Cursor}
 use Rattle.reading.specs.Walk.{cursor, walkStep}
-use Rattle.reading.specs.Reading.{numbered, bitWhen, slicedWhen, whyColumn, whyRun, whyValue, prefixOf, suffixOf}
+use Rattle.reading.specs.Reading.{numbered, bitWhen, slicedWhen, whyColumn, whyRun, whyValue, prefixOf, suffixOf, skipOf}
 
 module _ (l : Lent) (c : Column) where
   -- ---- the tests one by one, and what is known where all let the call pass
@@ -115,6 +116,23 @@ module _ (n : ℕ) (x : List ℕ) where
   pub suffix-yes : n ≤ length x → take (length x - (length x - n)) (drop (length x - n) x) ≡ suffixOf n x
   unfolding suffixOf
   suffix-yes h = rw (le-leb n (length x) h) (take-all (length x - (length x - n)) (drop (length x - n) x) (simp length-drop (omega arith)))
+
+-- where they are, by where the whole is
+module _ (p q y : ℕ × ℕ) (e : p ≡ q) where
+  pub starts-there : y ≡ (p .0, 0 + p .1) → y ≡ q
+  starts-there h = h ∙ ap (λ (k : ℕ). (p .0, k)) (zero-add (p .1)) ∙ e
+
+  pub starts-after : (n k : ℕ) (x : List ℕ) → y ≡ (p .0, k + p .1) → k ≡ skipOf n x → y ≡ further q (skipOf n x)
+  starts-after n k x h f = h ∙ ap (λ (j : ℕ). (p .0, j)) (add-comm k (p .1)) ∙ ap₂ further e f
+
+module _ (n : ℕ) (x : List ℕ) where
+  pub skip-none : length x < n → 0 ≡ skipOf n x
+  unfolding skipOf
+  skip-none h = rw (lt-leb n (length x) h)
+
+  pub skip-some : n ≤ length x → length x - n ≡ skipOf n x
+  unfolding skipOf
+  skip-some h = rw (le-leb n (length x) h)
 
 -- ---- answers by a verdict
 

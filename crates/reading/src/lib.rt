@@ -2,19 +2,25 @@
 // Every call tests its own inputs: none asks anything of its caller.
 ghost use mathlib.Core.Path.{_≡_};
 ghost use mathlib.Core.Bool.{true, false};
-ghost use mathlib.Core.List.{[]};
-ghost use Prim.Native.Nat.{_+_, _*_, _/_, _≤_, _<_};
+ghost use mathlib.Core.List.{List, []};
+ghost use Prim.Native.Nat.{ℕ, _+_, _*_, _/_, _≤_, _<_};
 ghost use lib.ListN.{length};
 ghost use Rattle.basis.specs.Pick.{pick};
 ghost use Rattle.null_bits.specs.Bits as bits;
 ghost use Rattle.views.specs.View.{viewSize, lengthOf, isShort, viewAt};
-ghost use Rattle.column.specs.Lent.{lent, buffers};
+ghost use denote.Ref.{ptr};
+ghost use Rattle.column.specs.declared.Block.{Block};
+ghost use Rattle.column.specs.Lent.{lentOf, buffers};
+ghost use Rattle.column.specs.Spot.{further, Sees};
 ghost use Rattle.reading.specs.Reading as spec;
+ghost use Rattle.reading.specs.Reading.{whyReach, locatedBy, whyOf, bytesOf, pointsOf, LiesAt};
 ghost use Rattle.reading.specs.TotalLaws.{rowsOnly, Held};
 ghost use Rattle.reading.specs.Walk.{walkStart, walkValue, walkStep};
 use bounds::Refusal;
 use bounds::Why;
 use column::Column;
+use column::Seen;
+use column::Spot;
 
 // A number that was asked for.
 pub enum Number {
@@ -45,6 +51,96 @@ pub struct Step {
     pub next: Cursor,
 }
 
+// Where a row's value stands, or why it is refused.
+pub enum Located {
+    At(Spot),
+    Refused(Refusal),
+}
+
+fn judged(row: usize, s: Spot) -> Located
+    ensures { λ r. ⌜ r ≡ locatedBy (whyReach row s) s ⌝ }
+{
+    if column::is_reached(s) {
+        return Located::At(s);
+    }
+    Located::Refused(Refusal::BadView(row))
+}
+
+// Where a row's value stands, by what the row sees of the table.
+pub fn locate_with<'a>(
+    views: &'a [u8],
+    bytes: &'a [u8],
+    nulls: &'a [u8],
+    c: Column,
+    row: usize,
+    s: Seen,
+) -> Located
+    ensures { λ r. ⌜ LiesAt (now (views .entry)) (now (bytes .entry)) r
+        × ((table : List Block) → Sees table (now (views .entry)) (c .first + row) s
+        → r ≡ spec.locatedAt (buffers (now (views .entry)) (now (bytes .entry)) table (now (nulls .entry))) c row) ⌝ }
+{
+    let count = s.count;
+    if !column::fits_with(views, nulls, c, count) {
+        return Located::Refused(Refusal::Fit);
+    }
+    let rows = c.rows;
+    if rows <= row {
+        return Located::Refused(Refusal::Row);
+    }
+    let at = c.first + row;
+    let blocks = c.blocks;
+    let b = s.block;
+    judged(
+        row,
+        column::spot_with(views, at, blocks, column::room_of(bytes), b),
+    )
+}
+
+// Where a row's value stands.
+pub fn locate(
+    views: &[u8],
+    bytes: &[u8],
+    starts: &[usize],
+    lens: &[usize],
+    nulls: &[u8],
+    c: Column,
+    row: usize,
+) -> Located
+    ensures { λ r. ⌜ r ≡ spec.locatedAt (lentOf (views .entry) (bytes .entry) (starts .entry) (lens .entry) (nulls .entry)) c row ⌝ }
+{
+    if !column::fits(views, bytes, starts, lens, nulls, c) {
+        return Located::Refused(Refusal::Fit);
+    }
+    let rows = c.rows;
+    if rows <= row {
+        return Located::Refused(Refusal::Row);
+    }
+    let at = c.first + row;
+    let blocks = c.blocks;
+    judged(row, column::spot_at(views, bytes, starts, lens, blocks, at))
+}
+
+// Why a value that was looked for is refused.
+pub fn why_of(l: Located) -> Why
+    ensures { λ w. ⌜ w ≡ whyOf l ⌝ }
+{
+    match l {
+        Located::At(_) => Why::Accepted,
+        Located::Refused(r) => Why::Refused(r),
+    }
+}
+
+// The bytes of a value that was looked for: a part of the views or of the data; an empty one of the views where it is refused.
+pub fn part_of<'a>(views: &'a [u8], bytes: &'a [u8], l: Located) -> &'a [u8]
+    requires { ⌜ LiesAt (now views) (now bytes) l ⌝ }
+    ensures { λ r. ⌜ (now r ≡ bytesOf (now (views .entry)) (now (bytes .entry)) l) × (ptr r ≡ pointsOf (ptr (views .entry)) (ptr (bytes .entry)) l) ⌝ }
+{
+    match l {
+        Located::At(s) => return column::part_of(views, bytes, s),
+        Located::Refused(_) => return &views[0..0],
+    }
+}
+
 // The question beside `value`, `prefix`, `suffix` and `walk_value`: why a row's value is refused.
 pub fn why_value(
     views: &[u8],
@@ -55,21 +151,24 @@ pub fn why_value(
     c: Column,
     row: usize,
 ) -> Why
-    ensures { λ w. ⌜ w ≡ spec.whyValue (lent (now (views .entry)) (now (bytes .entry)) (now (starts .entry)) (now (lens .entry)) (now (nulls .entry))) c row ⌝ }
+    ensures { λ w. ⌜ w ≡ spec.whyValue (lentOf (views .entry) (bytes .entry) (starts .entry) (lens .entry) (nulls .entry)) c row ⌝ }
 {
-    if !column::fits(views, bytes, starts, lens, nulls, c) {
-        return Why::Refused(Refusal::Fit);
-    }
-    let first = c.first;
-    let rows = c.rows;
-    let blocks = c.blocks;
-    if rows <= row {
-        return Why::Refused(Refusal::Row);
-    }
-    if !column::reachable_at(views, bytes, starts, lens, blocks, first + row) {
-        return Why::Refused(Refusal::BadView(row));
-    }
-    Why::Accepted
+    why_of(locate(views, bytes, starts, lens, nulls, c, row))
+}
+
+// The same by what the row sees of the table.
+pub fn why_with<'a>(
+    views: &'a [u8],
+    bytes: &'a [u8],
+    nulls: &'a [u8],
+    c: Column,
+    row: usize,
+    s: Seen,
+) -> Why
+    ensures { λ w. ⌜ ((table : List Block) → Sees table (now (views .entry)) (c .first + row) s
+        → w ≡ spec.whyValue (buffers (now (views .entry)) (now (bytes .entry)) table (now (nulls .entry))) c row) ⌝ }
+{
+    why_of(locate_with(views, bytes, nulls, c, row, s))
 }
 
 // A row's value, its null bit ignored: a part of the views where it is short, of the data where it is long; empty where it is refused.
@@ -82,14 +181,28 @@ pub fn value<'a>(
     c: Column,
     row: usize,
 ) -> &'a [u8]
-    ensures { λ r. ⌜ now r ≡ spec.valueAt (lent (now (views .entry)) (now (bytes .entry)) (now (starts .entry)) (now (lens .entry)) (now (nulls .entry))) c row ⌝ }
+    ensures { λ r. ⌜ (now r ≡ spec.valueAt (lentOf (views .entry) (bytes .entry) (starts .entry) (lens .entry) (nulls .entry)) c row)
+        × (ptr r ≡ spec.pointsAt (lentOf (views .entry) (bytes .entry) (starts .entry) (lens .entry) (nulls .entry)) c row (ptr (views .entry)) (ptr (bytes .entry))) ⌝ }
 {
-    if !bounds::is_accepted(why_value(views, bytes, starts, lens, nulls, c, row)) {
-        return &views[0..0];
-    }
-    let first = c.first;
-    let blocks = c.blocks;
-    column::value_part(views, bytes, starts, lens, blocks, first + row)
+    let l = locate(views, bytes, starts, lens, nulls, c, row);
+    part_of(views, bytes, l)
+}
+
+// The same by what the row sees of the table.
+pub fn value_with<'a>(
+    views: &'a [u8],
+    bytes: &'a [u8],
+    nulls: &'a [u8],
+    c: Column,
+    row: usize,
+    s: Seen,
+) -> &'a [u8]
+    ensures { λ r. ⌜ ((table : List Block) → Sees table (now (views .entry)) (c .first + row) s
+        → (now r ≡ spec.valueAt (buffers (now (views .entry)) (now (bytes .entry)) table (now (nulls .entry))) c row)
+        × (ptr r ≡ spec.pointsAt (buffers (now (views .entry)) (now (bytes .entry)) table (now (nulls .entry))) c row (ptr (views .entry)) (ptr (bytes .entry)))) ⌝ }
+{
+    let l = locate_with(views, bytes, nulls, c, row, s);
+    part_of(views, bytes, l)
 }
 
 // The first n bytes of a row's value, empty where it has fewer.
@@ -103,7 +216,8 @@ pub fn prefix<'a>(
     row: usize,
     n: usize,
 ) -> &'a [u8]
-    ensures { λ r. ⌜ now r ≡ spec.prefixAt (lent (now (views .entry)) (now (bytes .entry)) (now (starts .entry)) (now (lens .entry)) (now (nulls .entry))) c row n ⌝ }
+    ensures { λ r. ⌜ (now r ≡ spec.prefixAt (lentOf (views .entry) (bytes .entry) (starts .entry) (lens .entry) (nulls .entry)) c row n)
+        × (ptr r ≡ spec.pointsAt (lentOf (views .entry) (bytes .entry) (starts .entry) (lens .entry) (nulls .entry)) c row (ptr (views .entry)) (ptr (bytes .entry))) ⌝ }
 {
     let v = value(views, bytes, starts, lens, nulls, c, row);
     if v.len() < n {
@@ -123,7 +237,8 @@ pub fn suffix<'a>(
     row: usize,
     n: usize,
 ) -> &'a [u8]
-    ensures { λ r. ⌜ now r ≡ spec.suffixAt (lent (now (views .entry)) (now (bytes .entry)) (now (starts .entry)) (now (lens .entry)) (now (nulls .entry))) c row n ⌝ }
+    ensures { λ r. ⌜ (now r ≡ spec.suffixAt (lentOf (views .entry) (bytes .entry) (starts .entry) (lens .entry) (nulls .entry)) c row n)
+        × (ptr r ≡ further (spec.pointsAt (lentOf (views .entry) (bytes .entry) (starts .entry) (lens .entry) (nulls .entry)) c row (ptr (views .entry)) (ptr (bytes .entry))) (spec.skipOf n (spec.valueAt (lentOf (views .entry) (bytes .entry) (starts .entry) (lens .entry) (nulls .entry)) c row))) ⌝ }
 {
     let v = value(views, bytes, starts, lens, nulls, c, row);
     let len = v.len();
@@ -142,7 +257,7 @@ fn why_column(
     nulls: &[u8],
     c: Column,
 ) -> Why
-    ensures { λ w. ⌜ w ≡ spec.whyColumn (lent (now (views .entry)) (now (bytes .entry)) (now (starts .entry)) (now (lens .entry)) (now (nulls .entry))) c ⌝ }
+    ensures { λ w. ⌜ w ≡ spec.whyColumn (lentOf (views .entry) (bytes .entry) (starts .entry) (lens .entry) (nulls .entry)) c ⌝ }
 {
     if !column::fits(views, bytes, starts, lens, nulls, c) {
         return Why::Refused(Refusal::Fit);
@@ -161,7 +276,7 @@ fn why_run(
     start: usize,
     count: usize,
 ) -> Why
-    ensures { λ w. ⌜ w ≡ spec.whyRun (lent (now (views .entry)) (now (bytes .entry)) (now (starts .entry)) (now (lens .entry)) (now (nulls .entry))) c start count ⌝ }
+    ensures { λ w. ⌜ w ≡ spec.whyRun (lentOf (views .entry) (bytes .entry) (starts .entry) (lens .entry) (nulls .entry)) c start count ⌝ }
 {
     if !column::fits(views, bytes, starts, lens, nulls, c) {
         return Why::Refused(Refusal::Fit);
@@ -186,7 +301,7 @@ pub fn length(
     c: Column,
     row: usize,
 ) -> Number
-    ensures { λ r. ⌜ r ≡ spec.lengthAt (lent (now (views .entry)) (now (bytes .entry)) (now (starts .entry)) (now (lens .entry)) (now (nulls .entry))) c row ⌝ }
+    ensures { λ r. ⌜ r ≡ spec.lengthAt (lentOf (views .entry) (bytes .entry) (starts .entry) (lens .entry) (nulls .entry)) c row ⌝ }
 {
     let first = c.first;
     let why = why_run(views, bytes, starts, lens, nulls, c, row, 1);
@@ -206,7 +321,7 @@ pub fn null_bit(
     c: Column,
     row: usize,
 ) -> Bit
-    ensures { λ r. ⌜ r ≡ spec.bitOf (lent (now (views .entry)) (now (bytes .entry)) (now (starts .entry)) (now (lens .entry)) (now (nulls .entry))) c row ⌝ }
+    ensures { λ r. ⌜ r ≡ spec.bitOf (lentOf (views .entry) (bytes .entry) (starts .entry) (lens .entry) (nulls .entry)) c row ⌝ }
 {
     let first = c.first;
     let mapped = c.mapped;
@@ -233,7 +348,7 @@ pub fn null_run(
     start: usize,
     count: usize,
 ) -> Number
-    ensures { λ r. ⌜ r ≡ spec.nullRun (lent (now (views .entry)) (now (bytes .entry)) (now (starts .entry)) (now (lens .entry)) (now (nulls .entry))) c start count ⌝ }
+    ensures { λ r. ⌜ r ≡ spec.nullRun (lentOf (views .entry) (bytes .entry) (starts .entry) (lens .entry) (nulls .entry)) c start count ⌝ }
 {
     let first = c.first;
     let mapped = c.mapped;
@@ -255,7 +370,7 @@ pub fn slice(
     start: usize,
     count: usize,
 ) -> Sliced
-    ensures { λ r. ⌜ r ≡ spec.slice (lent (now (views .entry)) (now (bytes .entry)) (now (starts .entry)) (now (lens .entry)) (now (nulls .entry))) c start count ⌝ }
+    ensures { λ r. ⌜ r ≡ spec.slice (lentOf (views .entry) (bytes .entry) (starts .entry) (lens .entry) (nulls .entry)) c start count ⌝ }
 {
     let first = c.first;
     let blocks = c.blocks;
@@ -308,7 +423,7 @@ pub fn total_bytes_len(
     nulls: &[u8],
     c: Column,
 ) -> Number
-    ensures { λ r. ⌜ r ≡ spec.totalBytesLen (lent (now (views .entry)) (now (bytes .entry)) (now (starts .entry)) (now (lens .entry)) (now (nulls .entry))) c ⌝ }
+    ensures { λ r. ⌜ r ≡ spec.totalBytesLen (lentOf (views .entry) (bytes .entry) (starts .entry) (lens .entry) (nulls .entry)) c ⌝ }
 {
     let first = c.first;
     let rows = c.rows;
@@ -354,7 +469,7 @@ pub fn total_buffer_bytes_used(
     nulls: &[u8],
     c: Column,
 ) -> Number
-    ensures { λ r. ⌜ r ≡ spec.totalBufferBytesUsed (lent (now (views .entry)) (now (bytes .entry)) (now (starts .entry)) (now (lens .entry)) (now (nulls .entry))) c ⌝ }
+    ensures { λ r. ⌜ r ≡ spec.totalBufferBytesUsed (lentOf (views .entry) (bytes .entry) (starts .entry) (lens .entry) (nulls .entry)) c ⌝ }
 {
     let first = c.first;
     let rows = c.rows;
@@ -382,7 +497,8 @@ pub fn walk_value<'a>(
     c: Column,
     cursor: Cursor,
 ) -> &'a [u8]
-    ensures { λ r. ⌜ now r ≡ walkValue (lent (now (views .entry)) (now (bytes .entry)) (now (starts .entry)) (now (lens .entry)) (now (nulls .entry))) c cursor ⌝ }
+    ensures { λ r. ⌜ (now r ≡ walkValue (lentOf (views .entry) (bytes .entry) (starts .entry) (lens .entry) (nulls .entry)) c cursor)
+        × (ptr r ≡ spec.pointsAt (lentOf (views .entry) (bytes .entry) (starts .entry) (lens .entry) (nulls .entry)) c (cursor .at) (ptr (views .entry)) (ptr (bytes .entry))) ⌝ }
 {
     let at = cursor.at;
     value(views, bytes, starts, lens, nulls, c, at)
@@ -398,7 +514,7 @@ pub fn walk_step(
     c: Column,
     cursor: Cursor,
 ) -> Step
-    ensures { λ r. ⌜ r ≡ walkStep (lent (now (views .entry)) (now (bytes .entry)) (now (starts .entry)) (now (lens .entry)) (now (nulls .entry))) c cursor ⌝ }
+    ensures { λ r. ⌜ r ≡ walkStep (lentOf (views .entry) (bytes .entry) (starts .entry) (lens .entry) (nulls .entry)) c cursor ⌝ }
 {
     let at = cursor.at;
     let why = why_value(views, bytes, starts, lens, nulls, c, at);

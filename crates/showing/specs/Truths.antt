@@ -1,6 +1,6 @@
 -- A row that shows a value is reachable, and true if the value is of the kind; a true view shows what it shows. Assumes nothing.
 use mathlib.Core.Path.{_≡_, refl, sym, ap, _∙_}
-use mathlib.Core.Bool.{Bool, true, false, _&&_}
+use mathlib.Core.Bool.{Bool, true, false, _&&_, true≢false}
 use mathlib.Core.List.{List, [], _∷_}
 use Prim.Native.Nat.{ℕ, zero, suc, _+_, _≤_, _<_}
 use native.Mathlib.Omega.{arith}
@@ -15,10 +15,15 @@ use Rattle.order.specs.Order.{same}
 use Rattle.order.specs.OrderLaws.{same-self, same-true}
 use Rattle.views.specs.View.{viewSize, shortMost, isShort, lengthOf, prefixOf, bodyOf, blockOf, offsetOf}
 use Rattle.column.specs.declared.Kind.{Kind}
-use Rattle.column.specs.declared.Reach.the-variants.{Inside, NoBlock, Outside}
+use Rattle.column.specs.declared.Reach.the-variants.{Inside}
+use Rattle.column.specs.declared.Spot.{Spot}
+use Rattle.column.specs.declared.Spot.the-variants as spot
 use Rattle.column.specs.Lent.{Lent, blockAt, dataRoom, inData}
 use Rattle.column.specs.Meaning.{part, bytesOf, blocksOf, shown}
-use Rattle.column.specs.Truth.{reachOf, isInside, reachable, zeros, honest, ofKind, isTrue}
+use Rattle.column.specs.Spot.{spotIn}
+use Rattle.column.specs.ReachLaws.{reach-short, reach-long}
+use Rattle.column.specs.SpotLaws.{Stood, in-views, in-data, no-block, outside, stood}
+use Rattle.column.specs.Truth.{reachBy, reachOf, isInside, reachable, zeros, honest, ofKind, isTrue}
 use Rattle.showing.specs.Row.{Row, row-short, row-long}
 use Rattle.showing.specs.Rooms.{rooms, both}
 use Rattle.showing.specs.Stores.{blocks-at, blocks-past, block-most, block-length}
@@ -29,29 +34,27 @@ AllIn l n = (k : ℕ) → k < n → blockAt l k .start + blockAt l k .len ≤ da
 
 module _ (l : Lent) (n : ℕ) {v x : List ℕ} (inside : AllIn l n) (r : Row (blocksOf l n) v x) where
   row-reach : reachOf l n v ≡ Inside
-  unfolding reachOf inData
+  unfolding inData
   row-reach = by (isShort (length x)) refl
     where
-      in-block : shortMost < length x → (t : Bool) → ltb (blockOf v) n ≡ t
-          → pick t (pick (leb (blockAt l (blockOf v) .start + blockAt l (blockOf v) .len) (dataRoom l) && leb (offsetOf v + length x) (blockAt l (blockOf v) .len)) Inside Outside) NoBlock
-          ≡ Inside
+      in-block : shortMost < length x → (t : Bool) → ltb (blockOf v) n ≡ t → reachOf l n v ≡ Inside
       in-block h true e =
           let k : blockOf v < n = ltb-true (blockOf v) n e in
           let len : offsetOf v + length x ≤ length (bytesOf (l .bytes) (blockAt l (blockOf v))) = rw (blocks-at l n (blockOf v) k) at (r .reach h) in
           let room : blockAt l (blockOf v) .start + blockAt l (blockOf v) .len ≤ dataRoom l = inside (blockOf v) k in
+          let size : lengthOf v ≡ length x = r .len in
           rw (
+            ← reach-long l n v (omega arith) k,
             le-leb (blockAt l (blockOf v) .start + blockAt l (blockOf v) .len) (dataRoom l) room,
-            le-leb (offsetOf v + length x) (blockAt l (blockOf v) .len) (omega (arith, block-most (l .bytes) (blockAt l (blockOf v)))),
+            le-leb (offsetOf v + lengthOf v) (blockAt l (blockOf v) .len) (omega (arith, block-most (l .bytes) (blockAt l (blockOf v)))),
           )
       in-block h false e =
           let none : offsetOf v + length x ≤ 0 = rw (blocks-past l n (blockOf v) (ltb-false (blockOf v) n e)) at (r .reach h) in
           absurd (omega arith)
 
       by : (t : Bool) → isShort (length x) ≡ t → reachOf l n v ≡ Inside
-      by true t = rw (row-short r (leb-true (length x) shortMost t))
-      by false t =
-          let h : shortMost < length x = leb-false (length x) shortMost t in
-          rw (row-long r h, r .len) (in-block h (ltb (blockOf v) n) refl)
+      by true t = let h = leb-true (length x) shortMost t in let size : lengthOf v ≡ length x = r .len in sym (reach-short l n v (omega arith))
+      by false t = in-block (leb-false (length x) shortMost t) (ltb (blockOf v) n) refl
 
   pub row-reachable : reachable l n v ≡ true
   unfolding reachable
@@ -96,22 +99,15 @@ module _ (l : Lent) (n : ℕ) (v : List ℕ) where
   -- where a long one that is reachable lies
   reach-block : isShort (lengthOf v) ≡ false → reachable l n v ≡ true
       → (blockOf v < n) × ((blockAt l (blockOf v) .start + blockAt l (blockOf v) .len ≤ dataRoom l) × (offsetOf v + lengthOf v ≤ blockAt l (blockOf v) .len))
-  unfolding reachable reachOf inData
-  reach-block s e = by (ltb (blockOf v) n) (leb (blockAt l (blockOf v) .start + blockAt l (blockOf v) .len) (dataRoom l)) (leb (offsetOf v + lengthOf v) (blockAt l (blockOf v) .len)) refl refl refl (rw s at e)
+  unfolding reachable reachOf
+  reach-block s e = by (spotIn l n v 0) (stood (dataRoom l) n (blockAt l (blockOf v)) v 0) e
     where
-      by : (a b d : Bool) → ltb (blockOf v) n ≡ a → leb (blockAt l (blockOf v) .start + blockAt l (blockOf v) .len) (dataRoom l) ≡ b
-          → leb (offsetOf v + lengthOf v) (blockAt l (blockOf v) .len) ≡ d → isInside (pick a (pick (b && d) Inside Outside) NoBlock) ≡ true
+      by : (z : Spot) → Stood (dataRoom l) n (blockAt l (blockOf v)) v 0 z → isInside (reachBy z) ≡ true
           → (blockOf v < n) × ((blockAt l (blockOf v) .start + blockAt l (blockOf v) .len ≤ dataRoom l) × (offsetOf v + lengthOf v ≤ blockAt l (blockOf v) .len))
-      by true true true p q r e = (
-        ltb-true (blockOf v) n p,
-        (
-          leb-true (blockAt l (blockOf v) .start + blockAt l (blockOf v) .len) (dataRoom l) q,
-          leb-true (offsetOf v + lengthOf v) (blockAt l (blockOf v) .len) r,
-        ),
-      )
-      by true true false p q r e = let z : _≡_ {A = ℕ} 0 1 = cc in absurd (omega arith)
-      by true false d p q r e = let z : _≡_ {A = ℕ} 0 1 = cc in absurd (omega arith)
-      by false b d p q r e = let z : _≡_ {A = ℕ} 0 1 = cc in absurd (omega arith)
+      by (spot.View o k) (in-views f) e = absurd (let g = leb-false (lengthOf v) shortMost s in omega arith)
+      by (spot.Data o k) (in-data h f g i) e = (f, (g, i))
+      by spot.NoBlock (no-block h f) e = absurd (true≢false (sym e))
+      by spot.Outside (outside h f) e = absurd (true≢false (sym e))
 
 length-body : (v : List ℕ) → length v ≡ viewSize → length (bodyOf v) ≡ shortMost
 unfolding bodyOf

@@ -1,6 +1,6 @@
 // The validity check of a column: all its views are true and its blocks lie in the data.
 ghost use mathlib.Core.Path.{_≡_};
-ghost use Rattle.column.specs.Lent.{lent};
+ghost use Rattle.column.specs.Lent.{lentOf};
 ghost use Rattle.validity.specs.Check.{whyInvalid};
 use bounds::Refusal;
 use bounds::Why;
@@ -15,7 +15,7 @@ pub fn check<'a>(
     nulls: &[u8],
     c: Column,
 ) -> Why
-    ensures { λ r. ⌜ r ≡ whyInvalid (lent (now (views .entry)) (now (bytes .entry)) (now (starts .entry)) (now (lens .entry)) (now (nulls .entry))) c ⌝ }
+    ensures { λ r. ⌜ r ≡ whyInvalid (lentOf (views .entry) (bytes .entry) (starts .entry) (lens .entry) (nulls .entry)) c ⌝ }
 {
     if !column::fits(views, bytes, starts, lens, nulls, c) {
         return Why::Refused(Refusal::Fit);

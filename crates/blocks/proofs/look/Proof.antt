@@ -41,14 +41,14 @@ use Rattle.views.specs.View.{viewSize, viewAt, blockOf}
 use Rattle.column.specs.declared.Block.{Block}
 use Rattle.column.specs.declared.Column.{Column}
 use Rattle.column.specs.Lent.{block}
-use Rattle.blocks.specs.declared.Seen.{Seen}
-use Rattle.blocks.specs.Seen.{Sees}
+use Rattle.column.specs.declared.Seen.{Seen}
+use Rattle.column.specs.Spot.{Sees}
 use Rattle.column.proofs.Block as T
 use Rattle.column.proofs.Block.Laws as T′
 use Rattle.column.proofs.Column as K
 use Rattle.column.proofs.Column.Laws as K′
-use Rattle.blocks.proofs.Seen as S
-use Rattle.blocks.proofs.Seen.Laws as S′
+use Rattle.column.proofs.Seen as S
+use Rattle.column.proofs.Seen.Laws as S′
 use Rattle.blocks.proofs.block_of as G
 use Rattle.blocks.proofs.block_of.Symbol as G-def
 use Rattle.blocks.proofs.block_of.Symbol.{name as #blocks·block-of}

@@ -21,7 +21,7 @@ use denote.RattleType.{owns, RattleType}
 use denote.Laws.{Is, shows}
 use denote.Plain.{uint-makes, uint-lawful}
 use denote.Builtin.{usize, u8}
-use denote.Ref.{RefT, now, NamedLft}
+use denote.Ref.{RefT, ptr, now, NamedLft}
 use denote.Slice.{ShrSlice, slice-vals, sliceTy, shr-slice-lawful}
 use denote.Signature.{namedLft}
 use denote.Steps.{owned, nothing, peeks, heard, only}
@@ -47,7 +47,7 @@ use Rattle.bounds.specs.declared.Why.{Why}
 use Rattle.column.specs.declared.Block.{Block}
 use Rattle.column.specs.declared.Column.{Column}
 use Rattle.column.specs.Lent.{Lent}
-use Rattle.reading.specs.Reading.{whyValue, valueAt}
+use Rattle.reading.specs.Reading.{whyValue, valueAt, pointsAt}
 use Rattle.blocks.specs.declared.Walk.{Walk}
 use Rattle.blocks.specs.declared.Item.{Item}
 use Rattle.blocks.specs.Walk.{heldBy, placeAfter, walk-value, walk-why, walk-place}
@@ -156,7 +156,7 @@ module _ {M : Type 1} (𝓤 : URA M) (H : Heap 𝓤) (A : Atoms 𝓤) (W : Given
   asked₁ = qed W ((‵ (flft κ q) ⊛ ‵ ftrue) ∷ ‵ fields ∷ []) ∵ join ! $ frame ! $ done !
 
   abbrev Found : RefT (List ℕ) → Type 0
-  Found v = now v ≡ valueAt l (d .column) (d .at)
+  Found v = (now v ≡ valueAt l (d .column) (d .at)) × (ptr v ≡ pointsAt l (d .column) (d .at) (ptr (d .views)) (ptr (d .bytes)))
 
   said₁ : (v : RefT (List ℕ)) → ent 𝓤 (ensured 𝓤 H A G.ended (G.clauses 𝓤 H A mem run) (κ, tt) a₁ tt v) (fact 𝓤 (Found v))
   said₁ v = exE 𝓤 _ (λ ws. snd∗ 𝓤 (sem 𝓤 H A (lasts G.ended (κ, tt) a₁ ws)) (fact 𝓤 (Found v)))
@@ -197,7 +197,7 @@ module _ {M : Type 1} (𝓤 : URA M) (H : Heap 𝓤) (A : Atoms 𝓤) (W : Given
   exits v w n e₁ e₂ e₃ gn gw =
       qed W ((‵ (flft κ q) ⊛ ‵ ftrue) ∷ ‵ (ShrSlice (named 0) κ u8 .own v (slice-vals v)) ∷ ‵ Own ∷ ‵ Own ∷ []) ∵
       suffices ! _ (ends-at 𝓤 H A F.ended stayed (F.clauses 𝓤 H A mem run) W (((κ, tt), (q, tt), tt, (d, tt), (mach ∷ [], tt)), tt) (item-val v w n) (item v w n) (tt, tt) (tt, tt)) $
-      says ! (e₁ ∙ walk-value l (d .column) (d .at), (e₂ ∙ walk-why l (d .column) (d .at), ap moved (walk-place l (d .column) (d .at) w n e₂ e₃))) $
+      says ! ((e₁ .0 ∙ walk-value l (d .column) (d .at), e₁ .1), (e₂ ∙ walk-why l (d .column) (d .at), ap moved (walk-place l (d .column) (d .at) w n e₂ e₃))) $
       frame ! $ nothing ! $ move ! (2 ∷ 0 ∷ []) $ fjoin ! $ frame ! $
       -- [the part; what the walk owns]: the next place's facts take the place of at's
       owned ! usize (Is usize) (uint-makes 𝓤 H A W w64) n _ (refl, gn) $ move ! (2 ∷ 0 ∷ []) $ use2 W (‵ (Ty-at (κ, tt) .own (moved n) (LL.val D L (moved n) ∷ []))) (own-put 𝓤 H A W D L 5 vd n mach) $

@@ -4,7 +4,8 @@ use native.Mathlib.Omega.{arith}
 use borrow.Author.Needs.{needs}
 use borrow.Author.Tests.{not-true, not-false}
 use Rattle.bounds.specs.Bounds.{block-limit-is}
-use Rattle.blocks.specs.SeenLaws.{never, over-blocks}
+use Rattle.column.specs.FitLaws.{over-blocks}
+use Rattle.blocks.specs.PlacesLaws.{never}
 use Rattle.blocks.proofs.places_with.Statement.{statement}
 use Rattle.blocks.proofs.places_with.Tie as tie
 

@@ -1,55 +1,76 @@
 -- `comparison::compare` meets its contract. Assumes nothing.
-use denote.Ref.{now}
-use mathlib.Core.Path.{sym, _∙_}
-use native.Mathlib.Omega.{arith}
+use mathlib.Core.Path.{_∙_}
 use borrow.Author.Needs.{needs}
-use Rattle.bounds.specs.Bounds.{row-limit-small}
-use Rattle.column.specs.FitLaws.{fits-gives}
-use Rattle.comparison.specs.VerdictLaws.{comparable, compared-left, compared-right, compared-is, blocks-bare, readable}
+use Rattle.comparison.specs.VerdictLaws.{both-is, compared-left, compared-right, compared-by}
+use Rattle.reading.specs.LocatedLaws.{located-why, located-lies, located-bytes}
 use Rattle.comparison.proofs.compare.Statement.{statement}
 use Rattle.comparison.proofs.compare.Tie as tie
 
-why-compare-requires : tie.Need-why-compare-requires
-why-compare-requires c κs = search needs
+locate-requires : tie.Need-locate-requires
+locate-requires c κs = search needs
+
+locate-requires-2 : tie.Need-locate-requires-2
+locate-requires-2 c κs = search needs
+
+why-of-requires : tie.Need-why-of-requires
+why-of-requires c κs = search needs
+
+why-of-requires-2 : tie.Need-why-of-requires-2
+why-of-requires-2 c κs = search needs
+
+verdict-of-requires : tie.Need-verdict-of-requires
+verdict-of-requires c κs = search needs
 
 enum-known-why : tie.Need-enum-known-why
 enum-known-why c = search needs
 
 returns : tie.Need-returns
-returns c = compared-left _ _ _ _ _ _ _ (c .before .before .before .why-compare .ensures) _ (c .before .why .given .1)
+returns c = compared-left _ _ _ _ _ _ _ (both-is _ _ _ _ _ _ _ _ _ (c .before .before .before .before .before .why-of .ensures ∙ located-why _ _ _ _ (c .before .before .before .before .before .before .before .locate .ensures)) (c .before .before .before .before .why-of2 .ensures ∙ located-why _ _ _ _ (c .before .before .before .before .before .before .locate2 .ensures)) (c .before .before .before .verdict-of .ensures)) _ (c .before .why .given .1)
 
 enum-known-why-2 : tie.Need-enum-known-why-2
 enum-known-why-2 c = search needs
 
 returns-2 : tie.Need-returns-2
-returns-2 c = compared-right _ _ _ _ _ _ _ (c .before .before .before .why-compare .ensures) _ (c .before .why2 .given .1)
+returns-2 c = compared-right _ _ _ _ _ _ _ (both-is _ _ _ _ _ _ _ _ _ (c .before .before .before .before .before .why-of .ensures ∙ located-why _ _ _ _ (c .before .before .before .before .before .before .before .locate .ensures)) (c .before .before .before .before .why-of2 .ensures ∙ located-why _ _ _ _ (c .before .before .before .before .before .before .locate2 .ensures)) (c .before .before .before .verdict-of .ensures)) _ (c .before .why2 .given .1)
 
 enum-told : tie.Need-enum-told
 enum-told c = search needs
 
-add-compare-at : tie.Need-add-compare-at
-add-compare-at c = let k = comparable _ _ _ _ _ _ (sym (c .before .before .before .why-compare .ensures) ∙ c .before .enum-told .given .1) in let g = fits-gives _ _ _ _ _ _ (k .fit) in omega (arith, row-limit-small)
+part-of-requires : tie.Need-part-of-requires
+part-of-requires c κs = located-lies _ _ _ _ _ _ _ (c .before .before .before .before .before .before .locate .ensures)
 
-add-compare-at-2 : tie.Need-add-compare-at-2
-add-compare-at-2 c = let k = comparable _ _ _ _ _ _ (sym (c .before .before .before .before .why-compare .ensures) ∙ c .before .before .enum-told .given .1) in let g = fits-gives _ _ _ _ _ _ (k .fit2) in omega (arith, row-limit-small)
+part-of-requires-2 : tie.Need-part-of-requires-2
+part-of-requires-2 c κs = located-lies _ _ _ _ _ _ _ (c .before .before .before .before .before .before .locate2 .ensures)
 
-compare-at-requires : tie.Need-compare-at-requires
-compare-at-requires c κs = let k = comparable _ _ _ _ _ _ (sym (c .before .before .before .before .why-compare .ensures) ∙ c .before .before .enum-told .given .1) in (readable _ _ _ _ _ _ _ (k .fit) (k .row) (k .reach), readable _ _ _ _ _ _ _ (k .fit2) (k .row2) (k .reach2))
+view-of-requires : tie.Need-view-of-requires
+view-of-requires c κs = search needs
+
+view-of-requires-2 : tie.Need-view-of-requires-2
+view-of-requires-2 c κs = search needs
+
+order-with-requires : tie.Need-order-with-requires
+order-with-requires c κs = search needs
 
 returns-3 : tie.Need-returns-3
-returns-3 c = let s = c .before .before .before .before .before .before .before .before .before .before .before .before .before .before .before .before .args in compared-is _ _ _ _ _ _ _ (c .before .before .before .before .before .why-compare .ensures) _ (c .before .before .before .enum-told .given .1) (rw (blocks-bare _ _ _ _ (now (s .nulls)) _, blocks-bare _ _ _ _ (now (s .nulls2)) _) at (c .compare-at .ensures))
+returns-3 c = compared-by _ _ _ _ _ _ _ _ _ _ _ _ _ _ _ _ _ _ (both-is _ _ _ _ _ _ _ _ _ (c .before .before .before .before .before .before .before .before .before .why-of .ensures ∙ located-why _ _ _ _ (c .before .before .before .before .before .before .before .before .before .before .before .locate .ensures)) (c .before .before .before .before .before .before .before .before .why-of2 .ensures ∙ located-why _ _ _ _ (c .before .before .before .before .before .before .before .before .before .before .locate2 .ensures)) (c .before .before .before .before .before .before .before .verdict-of .ensures)) (c .before .before .before .before .before .enum-told .given .1) (c .before .before .view-of .ensures) (c .before .view-of2 .ensures) (c .before .before .before .before .part-of .ensures .0 ∙ located-bytes _ _ _ _ _ _ _ (c .before .before .before .before .before .before .before .before .before .before .before .locate .ensures)) (c .before .before .before .part-of2 .ensures .0 ∙ located-bytes _ _ _ _ _ _ _ (c .before .before .before .before .before .before .before .before .before .before .locate2 .ensures)) (c .order-with .ensures)
 
 pub compare-spec : {M : Type 1} → statement M
 compare-spec =
     tie.close
     (tie.spec
-    why-compare-requires
+    locate-requires
+    locate-requires-2
+    why-of-requires
+    why-of-requires-2
+    verdict-of-requires
     enum-known-why
     returns
     enum-known-why-2
     returns-2
     enum-told
-    add-compare-at
-    add-compare-at-2
-    compare-at-requires
+    part-of-requires
+    part-of-requires-2
+    view-of-requires
+    view-of-requires-2
+    order-with-requires
     returns-3)

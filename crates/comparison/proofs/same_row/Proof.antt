@@ -42,7 +42,7 @@ same-requires : tie.Need-same-requires
 same-requires c κs = search needs
 
 returns-2 : tie.Need-returns-2
-returns-2 c = bits-alike _ _ _ _ _ _ _ (c .before .before .before .before .before .before .before .before .valid-at .ensures) (c .before .before .before .before .before .before .valid-at2 .ensures) (c .before .before .before .before .before .if1 .left) _ (c .same .ensures ∙ ap₂ same (c .before .before .before .value-part .ensures ∙ shown-bare _ _ _ _ _ _ _) (c .before .value-part2 .ensures ∙ shown-bare _ _ _ _ _ _ _))
+returns-2 c = bits-alike _ _ _ _ _ _ _ (c .before .before .before .before .before .before .before .before .valid-at .ensures) (c .before .before .before .before .before .before .valid-at2 .ensures) (c .before .before .before .before .before .if1 .left) _ (c .same .ensures ∙ ap₂ same (c .before .before .before .value-part .ensures .0 ∙ shown-bare _ _ _ _ _ _ _) (c .before .value-part2 .ensures .0 ∙ shown-bare _ _ _ _ _ _ _))
 
 pub same-row-spec : {M : Type 1} → statement M
 same-row-spec =

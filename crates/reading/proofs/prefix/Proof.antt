@@ -1,8 +1,9 @@
 -- `reading::prefix` meets its contract. Assumes nothing.
-use native.Mathlib.Omega.{arith}
+use mathlib.Core.Path.{refl}
 use borrow.Author.Needs.{needs}
+use native.Mathlib.Omega.{arith}
+use Rattle.reading.specs.ReadingLaws.{prefix-no, prefix-yes, starts-there}
 use Rattle.reading.specs.Reading.{prefixAt}
-use Rattle.reading.specs.ReadingLaws.{prefix-no, prefix-yes}
 use Rattle.reading.proofs.prefix.Statement.{statement}
 use Rattle.reading.proofs.prefix.Tie as tie
 
@@ -20,7 +21,7 @@ part-result-end c = search needs
 
 returns : tie.Need-returns
 unfolding prefixAt
-returns c = rw (← c .before .before .value .ensures) (prefix-no _ _ (omega arith))
+returns c = (rw (← c .before .before .value .ensures .0) (prefix-no _ _ (omega arith)), starts-there _ _ _ (c .before .before .value .ensures .1) refl)
 
 sub-result-2 : tie.Need-sub-result-2
 sub-result-2 c = search needs
@@ -33,7 +34,7 @@ part-result-end-2 c = search needs
 
 returns-2 : tie.Need-returns-2
 unfolding prefixAt
-returns-2 c = rw (← c .before .before .value .ensures) (prefix-yes _ _ (omega arith))
+returns-2 c = (rw (← c .before .before .value .ensures .0) (prefix-yes _ _ (omega arith)), starts-there _ _ _ (c .before .before .value .ensures .1) refl)
 
 pub prefix-spec : {M : Type 1} → statement M
 prefix-spec =

@@ -1,22 +1,36 @@
 -- `exports::parts::tambuyeel_suffix` meets its contract. Assumes nothing.
-use native.Mathlib.Omega.{arith}
-use Rattle.bounds.specs.Bounds.{byte-limit-small}
-use Rattle.exports.specs.PartLaws.{suffix-none, suffix-some, place-ends}
+use mathlib.Core.Path.{ap, _∙_}
 use borrow.Author.Needs.{needs}
+use native.Mathlib.Omega.{arith}
+use Rattle.exports.specs.Exported.{placeTold, placeAt}
+use Rattle.exports.specs.PartLaws.{suffix-none, suffix-some}
+use Rattle.exports.specs.PlaceLaws.{place-ends}
+use Rattle.bounds.specs.Bounds.{byte-limit-small}
 use Rattle.exports.proofs.parts.tambuyeel_suffix.Statement.{statement}
 use Rattle.exports.proofs.parts.tambuyeel_suffix.Tie as tie
 
-tambuyeel-value-requires : tie.Need-tambuyeel-value-requires
-tambuyeel-value-requires c κs = search needs
+column-of-requires : tie.Need-column-of-requires
+column-of-requires c κs = search needs
+
+locate-requires : tie.Need-locate-requires
+locate-requires c κs = search needs
+
+told-place-requires : tie.Need-told-place-requires
+told-place-requires c κs = search needs
 
 returns : tie.Need-returns
-returns c = suffix-none _ _ _ (c .before .before .tambuyeel-value .ensures) (omega arith)
+unfolding placeAt
+returns c = suffix-none _ _ _ (rw (c .before .before .before .before .column-of .ensures) at (c .before .before .told-place .ensures ∙ ap placeTold (c .before .before .before .locate .ensures))) (omega arith)
 
-add-t12 : tie.Need-add-t12
-add-t12 c = let t = place-ends _ _ _ _ _ _ _ _ (c .before .before .before .before .tambuyeel-value .ensures) in omega (arith, byte-limit-small)
+add-t14 : tie.Need-add-t14
+unfolding placeAt
+add-t14 c = let t = place-ends _ _ _ _ _ _ _ (rw (c .before .before .before .before .before .before .column-of .ensures) at (c .before .before .before .before .told-place .ensures ∙ ap placeTold (c .before .before .before .before .before .locate .ensures))) in omega (arith, byte-limit-small)
 
 returns-2 : tie.Need-returns-2
-returns-2 c = suffix-some _ _ _ (c .before .before .before .before .tambuyeel-value .ensures) (omega arith)
+unfolding placeAt
+returns-2 c = suffix-some _ _ _ (rw (c .before .before .before .before .before .before .column-of .ensures) at (c .before .before .before .before .told-place .ensures ∙ ap placeTold (c .before .before .before .before .before .locate .ensures))) (omega arith)
 
 pub tambuyeel-suffix-spec : {M : Type 1} → statement M
-tambuyeel-suffix-spec = tie.close (tie.spec tambuyeel-value-requires returns add-t12 returns-2)
+tambuyeel-suffix-spec =
+    tie.close
+    (tie.spec column-of-requires locate-requires told-place-requires returns add-t14 returns-2)

@@ -1,0 +1,76 @@
+-- `comparison::compare_with` meets its contract. Assumes nothing.
+use mathlib.Core.Path.{_∙_}
+use borrow.Author.Needs.{needs}
+use Rattle.comparison.specs.VerdictLaws.{both-is, compared-left, compared-right, compared-by}
+use Rattle.reading.specs.LocatedLaws.{located-why, located-bytes}
+use Rattle.comparison.proofs.compare_with.Statement.{statement}
+use Rattle.comparison.proofs.compare_with.Tie as tie
+
+locate-with-requires : tie.Need-locate-with-requires
+locate-with-requires c κs = search needs
+
+locate-with-requires-2 : tie.Need-locate-with-requires-2
+locate-with-requires-2 c κs = search needs
+
+why-of-requires : tie.Need-why-of-requires
+why-of-requires c κs = search needs
+
+why-of-requires-2 : tie.Need-why-of-requires-2
+why-of-requires-2 c κs = search needs
+
+verdict-of-requires : tie.Need-verdict-of-requires
+verdict-of-requires c κs = search needs
+
+enum-known-why : tie.Need-enum-known-why
+enum-known-why c = search needs
+
+returns : tie.Need-returns
+returns c = λ table table2 sees sees2. compared-left _ _ _ _ _ _ _ (both-is _ _ _ _ _ _ _ _ _ (c .before .before .before .before .before .why-of .ensures ∙ located-why _ _ _ _ (c .before .before .before .before .before .before .before .locate-with .ensures .1 table sees)) (c .before .before .before .before .why-of2 .ensures ∙ located-why _ _ _ _ (c .before .before .before .before .before .before .locate-with2 .ensures .1 table2 sees2)) (c .before .before .before .verdict-of .ensures)) _ (c .before .why .given .1)
+
+enum-known-why-2 : tie.Need-enum-known-why-2
+enum-known-why-2 c = search needs
+
+returns-2 : tie.Need-returns-2
+returns-2 c = λ table table2 sees sees2. compared-right _ _ _ _ _ _ _ (both-is _ _ _ _ _ _ _ _ _ (c .before .before .before .before .before .why-of .ensures ∙ located-why _ _ _ _ (c .before .before .before .before .before .before .before .locate-with .ensures .1 table sees)) (c .before .before .before .before .why-of2 .ensures ∙ located-why _ _ _ _ (c .before .before .before .before .before .before .locate-with2 .ensures .1 table2 sees2)) (c .before .before .before .verdict-of .ensures)) _ (c .before .why2 .given .1)
+
+enum-told : tie.Need-enum-told
+enum-told c = search needs
+
+part-of-requires : tie.Need-part-of-requires
+part-of-requires c κs = c .before .before .before .before .before .before .locate-with .ensures .0
+
+part-of-requires-2 : tie.Need-part-of-requires-2
+part-of-requires-2 c κs = c .before .before .before .before .before .before .locate-with2 .ensures .0
+
+view-of-requires : tie.Need-view-of-requires
+view-of-requires c κs = search needs
+
+view-of-requires-2 : tie.Need-view-of-requires-2
+view-of-requires-2 c κs = search needs
+
+order-with-requires : tie.Need-order-with-requires
+order-with-requires c κs = search needs
+
+returns-3 : tie.Need-returns-3
+returns-3 c = λ table table2 sees sees2. compared-by _ _ _ _ _ _ _ _ _ _ _ _ _ _ _ _ _ _ (both-is _ _ _ _ _ _ _ _ _ (c .before .before .before .before .before .before .before .before .before .why-of .ensures ∙ located-why _ _ _ _ (c .before .before .before .before .before .before .before .before .before .before .before .locate-with .ensures .1 table sees)) (c .before .before .before .before .before .before .before .before .why-of2 .ensures ∙ located-why _ _ _ _ (c .before .before .before .before .before .before .before .before .before .before .locate-with2 .ensures .1 table2 sees2)) (c .before .before .before .before .before .before .before .verdict-of .ensures)) (c .before .before .before .before .before .enum-told .given .1) (c .before .before .view-of .ensures) (c .before .view-of2 .ensures) (c .before .before .before .before .part-of .ensures .0 ∙ located-bytes _ _ _ _ _ _ _ (c .before .before .before .before .before .before .before .before .before .before .before .locate-with .ensures .1 table sees)) (c .before .before .before .part-of2 .ensures .0 ∙ located-bytes _ _ _ _ _ _ _ (c .before .before .before .before .before .before .before .before .before .before .locate-with2 .ensures .1 table2 sees2)) (c .order-with .ensures)
+
+pub compare-with-spec : {M : Type 1} → statement M
+compare-with-spec =
+    tie.close
+    (tie.spec
+    locate-with-requires
+    locate-with-requires-2
+    why-of-requires
+    why-of-requires-2
+    verdict-of-requires
+    enum-known-why
+    returns
+    enum-known-why-2
+    returns-2
+    enum-told
+    part-of-requires
+    part-of-requires-2
+    view-of-requires
+    view-of-requires-2
+    order-with-requires
+    returns-3)

@@ -5,29 +5,26 @@ pub mod original {
     pub use arrow_array::builder::make_view;
 }
 
+/// The answer to the UTF-8 question: 1 or 0, and the place of the first ill-formed sequence, or the end.
+#[repr(C)]
+pub struct Text {
+    pub yes: u64,
+    pub place: usize,
+}
+
 mod raw {
     extern "C" {
-        pub fn text_first_bad(s: *const u8, n: usize) -> usize;
-        pub fn text_rows_utf8(s: *const u8, n: usize, row: usize) -> usize;
-        pub fn text_make_view(out: *mut [u8; 16], v: *const u8, n: usize, block: u32, offset: u32) -> u8;
-        pub fn text_short_views(dst: *mut u8, d: usize, src: *const u8, n: usize, lens: *const u8, k: usize) -> usize;
+        pub fn tambuyeel_utf8(x: *const u8, n: usize) -> super::Text;
+        pub fn tambuyeel_make_view(x: *const u8, n: usize, block: u32, offset: u32, view: *mut [u8; 16]) -> u64;
     }
 }
 
-pub fn first_bad(s: &[u8]) -> usize {
-    unsafe { raw::text_first_bad(s.as_ptr(), s.len()) }
+pub fn utf8(s: &[u8]) -> Text {
+    unsafe { raw::tambuyeel_utf8(s.as_ptr(), s.len()) }
 }
 
-pub fn rows_utf8(s: &[u8], row: usize) -> usize {
-    unsafe { raw::text_rows_utf8(s.as_ptr(), s.len(), row) }
-}
-
-pub fn make_view(out: &mut [u8; 16], v: &[u8], block: u32, offset: u32) -> u8 {
-    unsafe { raw::text_make_view(out, v.as_ptr(), v.len(), block, offset) }
-}
-
-pub fn short_views(dst: &mut [u8], src: &[u8], lens: &[u8]) -> usize {
-    unsafe { raw::text_short_views(dst.as_mut_ptr(), dst.len(), src.as_ptr(), src.len(), lens.as_ptr(), lens.len()) }
+pub fn make_view(out: &mut [u8; 16], v: &[u8], block: u32, offset: u32) -> u64 {
+    unsafe { raw::tambuyeel_make_view(v.as_ptr(), v.len(), block, offset, out) }
 }
 
 /// Up to where `s` is well formed, by Rust's own library.

@@ -181,6 +181,9 @@ module _ (w : ℕ) (s : Source) (k : Kind) (out : Lent) (a : isAccepted (whyOffs
   offsets-valid = made-valid w s k out (given w s k out a)
 
   module _ (r : ℕ) (h : r < rowsIn w s) where
+    pub offsets-kind : ofKind k (valueIn w s r) ≡ true
+    offsets-kind = new-kind w s k out (given w s k out a) r h
+
     pub offsets-value : shownAt (fromOffsets w s out) (offsetColumn w s k) r ≡ valueIn w s r
     offsets-value = shows-value offsets-shows r h ∙ getD-rows (valueIn w s) (rowsIn w s) r [] h
 

@@ -11,7 +11,7 @@ ghost use Rattle.column.specs.Truth.{ofKind};
 ghost use Rattle.laying.specs.Written.{putRows};
 ghost use Rattle.offsets.specs.Offsets.{widthOf, source, offsetAt, offsetCount, half, cuts, cutAt, anyNull, kindAt, rowViewOf, whyOffsets, Converted};
 ghost use Rattle.offsets.specs.Steps.{isText, rising, CutIn, SourceIn, Good};
-ghost use Rattle.offsets.specs.TextLaws.{Begins};
+ghost use Rattle.utf8.specs.Cut.{Begins};
 use bounds::Refusal;
 use bounds::Why;
 use column::Column;

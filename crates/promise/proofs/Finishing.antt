@@ -146,7 +146,7 @@ module _ {m : ℕ} (b : Builder) (xs : List Cell) (i : Inv m b xs) where
 
 -- ---- the check
 
-all-inside : (l : Lent) (n : ℕ) → AllIn l n → allInData l n ≡ true
+pub all-inside : (l : Lent) (n : ℕ) → AllIn l n → allInData l n ≡ true
 unfolding allInData inData
 all-inside l zero a = refl
 all-inside l (suc n) a = rw (all-inside l n (λ k h. a k (omega arith)), le-leb _ _ (a n (omega arith)))

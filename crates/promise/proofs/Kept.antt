@@ -1,32 +1,35 @@
 -- Every accepted call keeps what the rows show and adds rows that show what it puts there, so that every row is kept. Assumes nothing.
-use mathlib.Core.Path.{_≡_, refl, sym, _∙_, subst}
+use mathlib.Core.Path.{_≡_, refl, sym, ap, _∙_, subst}
 use mathlib.Core.Bool.{true}
-use mathlib.Core.List.{List, [], _∷_, _++_, map, append-nil}
-use Prim.Native.Nat.{ℕ, zero, suc, _+_, _<_}
+use mathlib.Core.List.{List, [], _∷_, _++_, map, map-append, append-nil}
+use Prim.Native.Nat.{ℕ, zero, suc, _<_}
 use native.Mathlib.Nat.{le-of-suc-le-suc, not-suc-le-zero}
 use native.Mathlib.Omega.{arith}
-use borrow.Author.Tests.{lt-leb, le-ltb}
 use lib.ListN.{length, getD, length-map, List·getD-map}
-use Rattle.bounds.specs.Refusals.{refuse}
+use Rattle.bounds.specs.Refusals.{refuse, isAccepted}
 use Rattle.bounds.specs.declared.Why.the-variants.{Accepted}
+use Rattle.column.specs.declared.Kind.{Kind}
 use Rattle.column.specs.declared.Column.{Column}
 use Rattle.column.specs.Lent.{Lent}
-use Rattle.showing.specs.Shows.{Shows, shows-rows, shows-row, shows-value, shows-reach, shows-bit}
-use Rattle.showing.specs.Row.{Row}
-use Rattle.showing.specs.Padded.{rows-compare}
+use Rattle.column.specs.Truth.{ofKind}
+use Rattle.column.specs.Laid.{rowsOf}
+use Rattle.showing.specs.Shows.{Shows, shows-rows}
 use Rattle.order.specs.Order.{cmp}
-use Rattle.comparison.specs.Compare.{bothOf, whyCompare, compareViews, compareRows, orderOf}
+use Rattle.comparison.specs.Compare.{compareRows, orderOf}
 use Rattle.comparison.specs.declared.Compared.the-variants as compared
 use Rattle.compaction.proofs.Compacted.{compacted-shows}
-use Rattle.reading.specs.Reading.{whyRun, whyRow, whyValue, valueAt, bitOf, bitWhen}
+use Rattle.offsets.specs.Offsets.{Source, rowsIn, validRow, valueIn, whyOffsets, fromOffsets, offsetColumn}
+use Rattle.offsets.proofs.Shown.{offsets-shows, offsets-kind}
+use Rattle.reading.specs.Reading.{whyValue, valueAt, bitOf, bitWhen}
 use Rattle.builder.specs.State.{Builder, rowsRoom}
 use Rattle.builder.specs.Start.{start}
 use Rattle.builder.specs.Get.{columnOf}
 use Rattle.builder.specs.Finish.{whyFinish, copied, finished}
-use Rattle.promise.specs.Calls.{Cell, no·value, bytesIn, validIn, Call, add·values, add·null, add·block, add·view, add·column, finish·copy, finish, why, put, after, rowsAfter, Ran, none, more}
-use Rattle.promise.specs.Kept.{Keeps, Filed, done, again, Shown, Reached, by·calls, Kept}
+use Rattle.promise.specs.Calls.{Cell, cell, no·value, bytesIn, validIn, Call, add·values, add·null, add·block, add·view, add·column, finish·copy, finish, why, put, after, rowsAfter, Ran, none, more}
+use Rattle.promise.specs.Kept.{Keeps, Filed, done, converted, again, Shown, Reached, by·calls, Kept}
+use Rattle.promise.proofs.Answers.{why-shows, value-shows, bit-shows, compare-shows}
 use Rattle.promise.proofs.Fits.{are-fits}
-use Rattle.promise.proofs.Steps.{Inv, OfKind}
+use Rattle.promise.proofs.Steps.{Inv, OfKind, knil, kind-snoc}
 use Rattle.promise.proofs.Gets.{rows-are, get-why, get-value}
 use Rattle.promise.proofs.Appends.{inv-values, inv-null}
 use Rattle.promise.proofs.Finishing.{inv-start, inv-finish, shows-finished, check-shown}
@@ -55,7 +58,7 @@ inv-ran xs (more {c = c} {cs} {b} w r) i = inv-ran (after c b xs) r (inv-put c b
 
 -- ---- what a column that shows cells answers
 
-cell-bit : (xs : List Cell) (i : ℕ) → i < length xs → getD (map validIn xs) i true ≡ getD xs i no·value .valid
+pub cell-bit : (xs : List Cell) (i : ℕ) → i < length xs → getD (map validIn xs) i true ≡ getD xs i no·value .valid
 cell-bit [] i h = absurd (not-suc-le-zero h)
 cell-bit (x ∷ xs) zero h = refl
 cell-bit (x ∷ xs) (suc i) h = cell-bit xs i (le-of-suc-le-suc h)
@@ -68,38 +71,22 @@ module _ (xs : List Cell) {l : Lent} {c : Column} (s : Shows l c (map bytesIn xs
   rows-shown = shows-rows s ∙ length-map xs bytesIn
 
   pub why-shown : (i : ℕ) → i < length xs → whyValue l c i ≡ Accepted
-  unfolding whyValue refuse
-  why-shown i h = rw (s .fitted, lt-leb (c .rows) i (omega (arith, rows-shown)), shows-reach s i (omega (arith, rows-shown)))
+  why-shown i h = why-shows s i (omega (arith, rows-shown))
 
   pub value-shown : (i : ℕ) → i < length xs → valueAt l c i ≡ getD xs i no·value .bytes
-  unfolding valueAt
-  value-shown i h = rw (why-shown i h) (shows-value s i (omega (arith, rows-shown)) ∙ cell-bytes xs i)
+  value-shown i h = value-shows s i (omega (arith, rows-shown)) ∙ cell-bytes xs i
 
   pub bit-shown : (i : ℕ) → i < length xs → bitOf l c i ≡ bitWhen Accepted (getD xs i no·value .valid)
-  unfolding bitOf whyRow whyRun refuse
-  bit-shown i h =
-      rw (s .fitted, le-ltb (c .rows) (i + 1) (omega (arith, rows-shown)), shows-bit s i (omega (arith, rows-shown)), cell-bit xs i h)
-
--- rows of two columns by their views
-compare-rows : {bs : List (List ℕ)} {v x : List ℕ} {cs : List (List ℕ)} {w y : List ℕ} → Row bs v x → Row cs w y → compareViews bs v cs w ≡ cmp x y
-unfolding compareViews
-compare-rows s t = rows-compare s t
+  bit-shown i h = bit-shows s i (omega (arith, rows-shown)) ∙ ap (bitWhen Accepted) (cell-bit xs i h)
 
 module _ (xs ys : List Cell) {l : Lent} {c : Column} {m : Lent} {d : Column}
     (s : Shows l c (map bytesIn xs) (map validIn xs)) (t : Shows m d (map bytesIn ys) (map validIn ys)) where
   compare-shown : (i j : ℕ) → i < length xs → j < length ys
       → compareRows l c i m d j ≡ compared.Is (orderOf (cmp (getD xs i no·value .bytes) (getD ys j no·value .bytes)))
-  unfolding compareRows whyCompare bothOf
   compare-shown i j h k =
-      let p : i < c .rows = omega (arith, rows-shown xs s) in
-      let q : j < d .rows = omega (arith, rows-shown ys t) in
-      rw (
-        why-shown xs s i h,
-        why-shown ys t j k,
-        compare-rows (shows-row s i p) (shows-row t j q),
-        cell-bytes xs i,
-        cell-bytes ys j,
-      )
+      compare-shows s t i j (omega (arith, rows-shown xs s)) (omega (arith, rows-shown ys t))
+      ∙ ap (λ (x : List ℕ). compared.Is (orderOf (cmp x (getD (map bytesIn ys) j [])))) (cell-bytes xs i)
+      ∙ ap (λ (y : List ℕ). compared.Is (orderOf (cmp (getD xs i no·value .bytes) y))) (cell-bytes ys j)
 
 -- ---- what is kept
 
@@ -127,10 +114,33 @@ record Files (xs : List Cell) (l : Lent) (c : Column) : Type 0 where
   shows : Shows l c (map bytesIn xs) (map validIn xs)
   kinds : OfKind (c .kind) xs
 
+map-rows : {A B : Type 0} (f : A → B) (g : ℕ → A) (n : ℕ) → map f (rowsOf g n) ≡ rowsOf (λ r. f (g r)) n
+unfolding rowsOf
+map-rows f g zero = refl
+map-rows f g (suc n) = map-append f (rowsOf g n) (g n ∷ []) ∙ rw (map-rows f g n)
+
+kinds-rows : (k : Kind) (f : ℕ → Cell) (n : ℕ) → ((r : ℕ) → r < n → ofKind k (f r .bytes) ≡ true) → OfKind k (rowsOf f n)
+unfolding rowsOf
+kinds-rows k f zero h = knil
+kinds-rows k f (suc n) h = kind-snoc (f n) (kinds-rows k f n (λ r l. h r (omega arith))) (h n (omega arith))
+
+-- an offset column's rows, and that they are of its kind
+offset-files : (s : Source) (k : Kind) (out : Lent) → isAccepted (whyOffsets 4 s k out) ≡ true
+    → Files (rowsOf (λ r. cell (valueIn 4 s r) (validRow 4 s r)) (rowsIn 4 s)) (fromOffsets 4 s out) (offsetColumn 4 s k)
+offset-files s k out a =
+    let f : ℕ → Cell = λ r. cell (valueIn 4 s r) (validRow 4 s r) in
+    record {
+      shows = rw (map-rows bytesIn f (rowsIn 4 s), map-rows validIn f (rowsIn 4 s)) (offsets-shows 4 s k out a);
+      kinds = kinds-rows k f (rowsIn 4 s) (λ r h. offsets-kind 4 s k out a r h);
+    }
+
 filed : (xs : List Cell) {l : Lent} {c : Column} → Filed xs l c → Files xs l c
 filed xs (done t l places cs b w r e) =
     let i = inv-ran [] r (inv-start t l places w) in
     subst (λ (ys : List Cell). Files ys (finished b .lent) (columnOf b)) e (record { shows = shows-finished b _ i; kinds = i .kinds })
+filed xs (converted s k out w e) =
+    let a : isAccepted (whyOffsets 4 s k out) ≡ true = ap isAccepted w in
+    subst (λ (ys : List Cell). Files ys (fromOffsets 4 s out) (offsetColumn 4 s k)) e (offset-files s k out a)
 filed xs (again most out {l} {c} d w) =
     let f = filed xs d in
     record { shows = compacted-shows most l c out (f .shows) w; kinds = f .kinds }

@@ -1,4 +1,5 @@
 pub mod Fits
+pub mod Answers
 pub mod Blocks
 pub mod Steps
 pub mod Gets
@@ -18,3 +19,7 @@ pub mod Defined
 pub mod Mixed
 pub mod Coded
 pub mod Tied
+pub mod Twice
+pub mod Compactions
+pub mod Answered
+pub mod Outputs

@@ -27,7 +27,7 @@ rows-for (values n x ∷ es) b xs =
     ∙ ap (λ (r : List Cell). xs ++ r) (rw (copies-for n x) (sym (map-append cellFor (replicate n (value x)) (appended es))))
 rows-for (nulls ∷ es) b xs = rows-for es _ (xs ++ no·value ∷ []) ∙ append-assoc xs (no·value ∷ []) (map cellFor (appended es))
 
-filed : (xs : List Item) {l : Lent} {c : Column} → Made xs l c → Filed (map cellFor xs) l c
+pub filed : (xs : List Item) {l : Lent} {c : Column} → Made xs l c → Filed (map cellFor xs) l c
 filed xs (built t l places cs b w e r f) = done t l places (map call cs) b w r (rows-for cs _ [] ∙ ap (map cellFor) e)
 filed xs (again most out d w) = files.again most out (filed xs d) w
 

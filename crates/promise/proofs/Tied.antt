@@ -115,10 +115,10 @@ pub copy-met : (κs : Lfts 6) (a : Dens κs copy-kinds.ps) (z : resT copy-kinds.
 copy-met κs a z s p e = record { does = p .0; accepted = e; state = refl }
 
 -- a finish
-abbrev finish-in : (κs : Lfts 6) → Dens κs finish-kinds.ps → Slices
+abbrev pub finish-in : (κs : Lfts 6) → Dens κs finish-kinds.ps → Slices
 finish-in κs a = record { state = a .0; views = now (a .1 .0); bytes = now (a .1 .1 .0); starts = now (a .1 .1 .1 .0); lens = now (a .1 .1 .1 .1 .0); nulls = now (a .1 .1 .1 .1 .1 .0); places = now (a .1 .1 .1 .1 .1 .1 .0) }
 
-abbrev finish-out : (κs : Lfts 6) → Dens κs finish-kinds.ps → resT finish-kinds.r κs .Denot → AtExit (endedOf 6 finish-kinds.ps finish-kinds.r) κs → Slices
+abbrev pub finish-out : (κs : Lfts 6) → Dens κs finish-kinds.ps → resT finish-kinds.r κs .Denot → AtExit (endedOf 6 finish-kinds.ps finish-kinds.r) κs → Slices
 finish-out κs a z s = record { state = z .answer .state; views = now (a .1 .0); bytes = now (a .1 .1 .0); starts = now (s .1 .1 .1 .0); lens = now (s .1 .1 .1 .1 .0); nulls = now (a .1 .1 .1 .1 .1 .0); places = now (s .1 .1 .1 .1 .1 .1 .0) }
 
 pub finish-met : (κs : Lfts 6) (a : Dens κs finish-kinds.ps) (z : resT finish-kinds.r κs .Denot) (s : AtExit (endedOf 6 finish-kinds.ps finish-kinds.r) κs) → ends.Post κs a z s → z .answer .why ≡ Accepted
@@ -126,7 +126,7 @@ pub finish-met : (κs : Lfts 6) (a : Dens κs finish-kinds.ps) (z : resT finish-
 finish-met κs a z s p e = record { does = p .0; accepted = e; state = refl }
 
 -- an accepted start: its state and its places, with slices of any content, are the builder that runs start from
-abbrev start-out : (κs : Lfts 1) → resT start-kinds.r κs .Denot → AtExit (endedOf 1 start-kinds.ps start-kinds.r) κs → (vs bs ss ns ms : List ℕ) → Slices
+abbrev pub start-out : (κs : Lfts 1) → resT start-kinds.r κs .Denot → AtExit (endedOf 1 start-kinds.ps start-kinds.r) κs → (vs bs ss ns ms : List ℕ) → Slices
 start-out κs z s vs bs ss ns ms = record { state = z .state; views = vs; bytes = bs; starts = ss; lens = ns; nulls = ms; places = now (s .1 .0) }
 
 pub start-accepts : (κs : Lfts 1) (a : Dens κs start-kinds.ps) (z : resT start-kinds.r κs .Denot) (s : AtExit (endedOf 1 start-kinds.ps start-kinds.r) κs) → begin.Post κs a z s → z .why ≡ Accepted

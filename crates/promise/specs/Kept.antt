@@ -1,13 +1,16 @@
--- After any calls of a builder every row shows what was put there: while it is built, in the column that it finishes, and in every compaction of that. Assumes nothing.
+-- After any calls of a builder every row shows what was put there: while it is built, in the column that it finishes, and in every compaction of that. So it is
+-- with an offset column. Assumes nothing.
 use mathlib.Core.Path.{_≡_}
 use mathlib.Core.List.{List, [], _∷_, _++_}
 use Prim.Native.Nat.{ℕ, _<_}
 use lib.ListN.{length, getD}
 use Rattle.order.specs.Order.{cmp}
 use Rattle.bounds.specs.declared.Why.the-variants.{Accepted}
+use Rattle.column.specs.declared.Kind.{Kind}
 use Rattle.column.specs.declared.Column.{Column}
 use Rattle.column.specs.Lent.{Lent}
 use Rattle.column.specs.Meaning.{blocksOf}
+use Rattle.column.specs.Laid.{rowsOf}
 use Rattle.reading.specs.Reading.{whyValue, valueAt, bitOf, bitWhen}
 use Rattle.validity.specs.Check.{whyInvalid}
 use Rattle.comparison.specs.Compare.{orderOf, compareRows}
@@ -19,7 +22,8 @@ use Rattle.builder.specs.Others.{whyBlock, putBlock, whyColumn, putColumn}
 use Rattle.builder.specs.Get.{columnOf, whyGet, getValue}
 use Rattle.builder.specs.Finish.{whyFinish, copied, finished}
 use Rattle.compaction.specs.Compact.{whyCompact, compacted, compactColumn}
-use Rattle.promise.specs.Calls.{Cell, no·value, Call, add·values, add·null, add·block, add·view, add·column, finish·copy, finish, why, put, Ran, rowsAfter}
+use Rattle.offsets.specs.Offsets.{Source, rowsIn, validRow, valueIn, whyOffsets, fromOffsets, offsetColumn}
+use Rattle.promise.specs.Calls.{Cell, cell, no·value, Call, add·values, add·null, add·block, add·view, add·column, finish·copy, finish, why, put, Ran, rowsAfter}
 
 -- while it is built: each row can be got, and is what was put there; neither finish is refused, and both leave the same buffers
 pub record Keeps (b : Builder) (xs : List Cell) : Type 0 where
@@ -30,10 +34,12 @@ pub record Keeps (b : Builder) (xs : List Cell) : Type 0 where
   pub copies : copied b .lent ≡ finished b .lent
 
 -- the columns of xs: finished after calls that put xs in the rows, a finish among the calls too, under any settings and over buffers of any content;
--- and compacted, again and again, into buffers of their own at any maximum
+-- from the offset layout, a null row showing nothing; and compacted, again and again, into buffers of their own at any maximum
 pub data Filed (xs : List Cell) : Lent → Column → Type 0 where
   done : (t : Settings) (l : Lent) (places : List ℕ) (cs : List Call) (b : Builder) → whyStart t ≡ Accepted → Ran cs (start t l places) b
       → rowsAfter cs (start t l places) [] ≡ xs → Filed xs (finished b .lent) (columnOf b)
+  converted : (s : Source) (k : Kind) (out : Lent) → whyOffsets 4 s k out ≡ Accepted → rowsOf (λ r. cell (valueIn 4 s r) (validRow 4 s r)) (rowsIn 4 s) ≡ xs
+      → Filed xs (fromOffsets 4 s out) (offsetColumn 4 s k)
   again : (most : ℕ) (out : Lent) {l : Lent} {c : Column} → Filed xs l c → whyCompact most l c out ≡ Accepted → Filed xs (compacted most l c out) (compactColumn most l c)
 
 -- each row of a column shows its cell, bytes and bit, and the column passes the check

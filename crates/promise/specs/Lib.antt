@@ -6,3 +6,5 @@ pub mod Merged
 pub mod Library
 pub mod Mixed
 pub mod Coded
+pub mod Compactions
+pub mod Answered

@@ -17,10 +17,8 @@ use lib.Seq.{drop-cons, drop-drop, drop-length}
 use Rattle.basis.specs.Pick.{pick}
 use Rattle.words.specs.Words.{Bytes, wordAt}
 use Rattle.words.specs.WordLaws.{word-lt}
-use Rattle.utf8.specs.declared.Lead.{Lead}
-use Rattle.utf8.specs.declared.Lead.the-variants.{One}
-use Rattle.utf8.specs.Table.{Range, _‥_, table, within, fits, led, ledBy, front, badAfter, firstBad}
-use Rattle.utf8.specs.Lead.{next, tails}
+use Rattle.utf8.specs.Table.{Range, _‥_, table, within, fits, led, ledBy, front, badAfter, walk}
+use Rattle.utf8.specs.Lead.{next, nexts, tailsOf}
 use Rattle.utf8.specs.Text.{under, over, lead-row, fits-none, bad-skip, judge-one, judge-none}
 
 -- lead bytes
@@ -57,44 +55,57 @@ lead-F5 b p =
     )
 
 -- the lead byte at i, and what follows it
-pub front-at : (s : List ℕ) (i : ℕ) (l : Lead) → i < length s → led (getD s i 0) table ≡ tails l → front (drop i s) ≡ ledBy (tails l) (drop (i + 1) s)
+pub front-at : (s : List ℕ) (i : ℕ) {ts : List (List Range)} → i < length s → led (getD s i 0) table ≡ ts → front (drop i s) ≡ ledBy ts (drop (i + 1) s)
 unfolding front
-front-at s i l h e = rw (drop-cons s i 0 h, add-one i, e)
+front-at s i h e = rw (drop-cons s i 0 h, add-one i, e)
 
 -- the bytes after the lead
 
+nexts-length : (n : ℕ) → length (nexts n) ≡ n
+unfolding nexts
+nexts-length zero = refl
+nexts-length (suc n) = ap suc (nexts-length n)
+
 -- too few bytes are left for the row's ranges
-pub too-few : (rs : List Range) (s : List ℕ) (i : ℕ) → i < length s → length s - i < suc (length rs) → 0 ≡ ledBy (rs ∷ []) (drop (i + 1) s)
-unfolding ledBy
-too-few rs s i g h = rw (fits-none rs (drop (i + 1) s) (simp length-drop (omega arith)))
+pub too-few : (n : ℕ) (r : Range) (s : List ℕ) (i : ℕ) → i < length s → 2 ≤ n → length s - i < n → 0 ≡ ledBy (tailsOf n r) (drop (i + 1) s)
+unfolding tailsOf ledBy
+too-few n r s i g m h = rw (fits-none (r ∷ nexts (n - 2)) (drop (i + 1) s) (simp (length-drop, nexts-length (n - 2)) (omega arith)))
 
 fits-one : (r : Range) (rs : List Range) (s : List ℕ) (i j : ℕ) → i < length s → j ≡ suc i → fits (r ∷ rs) (drop i s) ≡ within (getD s i 0) r && fits rs (drop j s)
 unfolding fits
 fits-one r rs s i j h e = rw (drop-cons s i 0 h, e)
 
-module _ (s : List ℕ) (i : ℕ) (r : Range) where
-  pub two-at : i + 2 ≤ length s → ledBy ((r ∷ []) ∷ []) (drop (i + 1) s) ≡ pick (within (getD s (i + 1) 0) r && true) 2 0
-  unfolding ledBy fits
-  two-at h = rw (fits-one r [] s (i + 1) (i + 2) (omega arith) (omega arith))
+-- the second byte by its range, the others as bytes that go on
+pub led-more : (n : ℕ) (r : Range) (s : List ℕ) (i : ℕ) → 2 ≤ n → i + n ≤ length s
+    → pick (within (getD s (i + 1) 0) r && fits (nexts (i + n - (i + 2))) (drop (i + 2) s)) n 0 ≡ ledBy (tailsOf n r) (drop (i + 1) s)
+unfolding tailsOf ledBy
+led-more n r s i m h =
+    let left : i + n - (i + 2) ≡ n - 2 = omega arith in
+    let all : suc (suc (n - 2)) ≡ n = omega arith in
+    rw (fits-one r (nexts (n - 2)) s (i + 1) (i + 2) (omega arith) (omega arith), left, nexts-length (n - 2), all)
 
-  pub three-at : i + 3 ≤ length s → ledBy ((r ∷ next ∷ []) ∷ []) (drop (i + 1) s) ≡ pick (within (getD s (i + 1) 0) r && (within (getD s (i + 2) 0) next && true)) 3 0
-  unfolding ledBy fits
-  three-at h = rw (fits-one r (next ∷ []) s (i + 1) (i + 2) (omega arith) (omega arith), fits-one next [] s (i + 2) (i + 3) (omega arith) (omega arith))
+and-true : (x : Bool) → x && true ≡ x
+and-true true = refl
+and-true false = refl
 
-  pub four-at : i + 4 ≤ length s
-      → ledBy ((r ∷ next ∷ next ∷ []) ∷ []) (drop (i + 1) s) ≡ pick (within (getD s (i + 1) 0) r && (within (getD s (i + 2) 0) next && (within (getD s (i + 3) 0) next && true))) 4 0
-  unfolding ledBy fits
-  four-at h =
-      rw (
-        fits-one r (next ∷ next ∷ []) s (i + 1) (i + 2) (omega arith) (omega arith),
-        fits-one next (next ∷ []) s (i + 2) (i + 3) (omega arith) (omega arith),
-        fits-one next [] s (i + 3) (i + 4) (omega arith) (omega arith),
-      )
+-- one byte more goes on
+pub nexts-on : (s : List ℕ) (k e : ℕ) → k < e → e ≤ length s → fits (nexts (e - k)) (drop k s) ≡ within (getD s k 0) next && fits (nexts (e - (k + 1))) (drop (k + 1) s)
+unfolding nexts
+nexts-on s k e h l =
+    let one : e - k ≡ suc (e - (k + 1)) = omega arith in
+    rw one (fits-one next (nexts (e - (k + 1))) s k (k + 1) (omega arith) (omega arith))
+
+pub nexts-end : (s : List ℕ) (k e : ℕ) → k ≡ e → fits (nexts (e - k)) (drop k s) ≡ true
+unfolding nexts fits
+nexts-end s k e h = let none : e - k ≡ 0 = omega arith in rw none
+
+pub nexts-last : (s : List ℕ) (k e : ℕ) → k + 1 ≡ e → e ≤ length s → fits (nexts (e - k)) (drop k s) ≡ within (getD s k 0) next
+nexts-last s k e h l = rw (nexts-on s k e (omega arith) l, nexts-end s (k + 1) e h) (and-true (within (getD s k 0) next))
 
 -- the walk
 
 -- a sequence is passed
-pub bad-step : (s : List ℕ) (i n : ℕ) → i < length s → n ≡ front (drop i s) → (n ≡ 0 → ⊥) → i + n ≤ length s → firstBad (drop i s) ≡ n + firstBad (drop (i + n) s)
+pub bad-step : (s : List ℕ) (i n : ℕ) → i < length s → n ≡ front (drop i s) → (n ≡ 0 → ⊥) → i + n ≤ length s → walk (drop i s) ≡ n + walk (drop (i + n) s)
 bad-step s i zero h e z l = absurd (z refl)
 bad-step s i (suc n) h e z l =
     let d = drop-cons s i 0 h in
@@ -104,23 +115,23 @@ bad-step s i (suc n) h e z l =
     ∙ ap suc (bad-skip n (drop (suc i) s) (simp length-drop (omega arith)))
     ∙ rw (drop-drop n (suc i) s, at) (omega arith))
 
-pub bad-here : (s : List ℕ) (i : ℕ) → i < length s → 0 ≡ front (drop i s) → firstBad (drop i s) ≡ 0
+pub bad-here : (s : List ℕ) (i : ℕ) → i < length s → 0 ≡ front (drop i s) → walk (drop i s) ≡ 0
 bad-here s i h e =
     let d = drop-cons s i 0 h in
     rw d (judge-none (getD s i 0) (drop (suc i) s) (rw (← d) (sym e)))
 
-pub bad-end : (s : List ℕ) (i : ℕ) → i ≡ length s → firstBad (drop i s) ≡ 0
-unfolding badAfter firstBad
+pub bad-end : (s : List ℕ) (i : ℕ) → i ≡ length s → walk (drop i s) ≡ 0
+unfolding badAfter
 bad-end s i e = rw (e, drop-length s)
 
 -- runs of ASCII bytes
 
-pub ascii-one : (s : List ℕ) (i : ℕ) → i < length s → getD s i 0 ≤ 127 → firstBad (drop i s) ≡ 1 + firstBad (drop (i + 1) s)
-unfolding tails ledBy fits
+pub ascii-one : (s : List ℕ) (i : ℕ) → i < length s → getD s i 0 ≤ 127 → walk (drop i s) ≡ 1 + walk (drop (i + 1) s)
+unfolding ledBy fits
 ascii-one s i h a =
-    bad-step s i 1 h (sym (front-at s i One h (lead-row 0 (getD s i 0) 0x00 0x7F [] (omega arith) refl (omega arith) a))) (λ e. omega arith) (omega arith)
+    bad-step s i 1 h (sym (front-at s i h (lead-row 0 (getD s i 0) 0x00 0x7F [] (omega arith) refl (omega arith) a))) (λ e. omega arith) (omega arith)
 
-pub ascii-run : (s : List ℕ) (i n : ℕ) → i + n ≤ length s → ((k : ℕ) → k < n → getD s (i + k) 0 ≤ 127) → firstBad (drop i s) ≡ n + firstBad (drop (i + n) s)
+pub ascii-run : (s : List ℕ) (i n : ℕ) → i + n ≤ length s → ((k : ℕ) → k < n → getD s (i + k) 0 ≤ 127) → walk (drop i s) ≡ n + walk (drop (i + n) s)
 ascii-run s i zero h a = rw (add-zero i) (omega arith)
 ascii-run s i (suc n) h a =
     let at : i + n + 1 ≡ i + suc n = omega arith in
@@ -188,7 +199,7 @@ module _ (s : List ℕ) (i j : ℕ) (hb : Bytes s) where
 
 -- sixteen bytes by two words
 pub sixteen : (s : List ℕ) (i x y : ℕ) → Bytes s → i + 16 ≤ length s → x ≡ wordAt s i 8 → y ≡ wordAt s (i + 8) 8 → bitAnd (bitOr x y) 9259542123273814144 ≡ 0
-    → firstBad (drop i s) ≡ 16 + firstBad (drop (i + 16) s)
+    → walk (drop i s) ≡ 16 + walk (drop (i + 16) s)
 sixteen s i x y hb h ex ey e =
     let both = both-ascii s i (i + 8) hb 8 (rw (← ex, ← ey) e) in
     let at : i + 8 + 8 ≡ i + 16 = omega arith in

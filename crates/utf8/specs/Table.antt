@@ -4,7 +4,7 @@ use mathlib.Core.List.{List, [], _∷_, _++_}
 use mathlib.Core.Path.{_≡_}
 use Prim.Native.Nat.{ℕ, zero, suc, _<_}
 use lib.Dec.{leb, eqb}
-use lib.ListN.{length, getD}
+use lib.ListN.{length, getD, take, drop}
 use Rattle.basis.specs.Pick.{pick}
 
 -- bytes from lo to hi, both included
@@ -68,14 +68,29 @@ abbrev pub judged : ℕ → (ℕ → ℕ) → ℕ
 judged zero f = 0
 judged (suc n) f = f n
 
--- where the first ill-formed sequence begins, or the length; the first k bytes belong to a sequence that was judged
+-- how far one gets from sequence to sequence; the first k bytes belong to a sequence that was judged
 unfoldable pub badAfter : ℕ → List ℕ → ℕ
 badAfter k [] = 0
 badAfter (suc k) (b ∷ s) = suc (badAfter k s)
 badAfter zero (b ∷ s) = judged (front (b ∷ s)) (λ n. suc (badAfter n s))
 
-unfoldable pub firstBad : List ℕ → ℕ
-firstBad s = badAfter 0 s
+abbrev pub walk : List ℕ → ℕ
+walk s = badAfter 0 s
 
+-- well formed, as a question: the walk comes to the end. Text.antt: exactly the lists that are `WellFormed`
 unfoldable pub wellFormed : List ℕ → Bool
-wellFormed s = eqb (firstBad s) (length s)
+wellFormed s = eqb (walk s) (length s)
+
+-- everything before place i is well formed, and no well-formed sequence starts there
+unfoldable pub isBad : List ℕ → ℕ → Bool
+isBad s i = wellFormed (take i s) && eqb (front (drop i s)) 0
+
+-- the lowest of the n places from i on that p has; the place after them where it has none
+unfoldable pub lowestFrom : (ℕ → Bool) → ℕ → ℕ → ℕ
+lowestFrom p i zero = i
+lowestFrom p i (suc n) = pick (p i) i (lowestFrom p (suc i) n)
+
+-- where the first ill-formed sequence begins: the lowest place such that everything before it is well formed and no well-formed sequence
+-- starts there. In a well-formed text that is its end. First.antt: there is such a place, and no other
+unfoldable pub firstBad : List ℕ → ℕ
+firstBad s = lowestFrom (isBad s) 0 (length s)

@@ -1,15 +1,15 @@
--- The laws of well-formed text: the two ways to say it agree. Assumes nothing.
+-- The laws of well-formed text: the question says yes exactly where the table does, and where the walk ends. Assumes nothing.
 use mathlib.Core.Path.{_≡_, refl, sym, ap, _∙_, subst}
 use mathlib.Core.Bool.{Bool, true, false, true≢false, _&&_}
-use mathlib.Core.List.{List, [], _∷_, _++_}
+use mathlib.Core.List.{List, [], _∷_, _++_, append-assoc, append-nil}
 use Prim.Native.Nat.{ℕ, zero, suc, _+_, _-_, _≤_, _<_}
-use native.Mathlib.Nat.{zero-add}
+use native.Mathlib.Nat.{zero-add, add-zero}
 use native.Mathlib.Omega.{arith}
 use borrow.Author.Tests.{leb-true, leb-false, le-leb, lt-leb, ltb-true, eqb-true, eq-eqb}
 use lib.Dec.{leb, ltb}
-use lib.ListN.{length, getD, take, drop, length-append, length-drop, take-append-drop}
-use lib.Seq.{drop-append-seam, length-take-le}
-use Rattle.utf8.specs.Table.{Range, _‥_, table, rowAt, within, fits, WellFormed, none, more, led, ledBy, front, badAfter, firstBad, wellFormed}
+use lib.ListN.{length, getD, take, drop, length-append, length-drop}
+use lib.Seq.{drop-append-seam, length-take-le, take-length, take-add, drop-drop}
+use Rattle.utf8.specs.Table.{Range, _‥_, table, rowAt, within, fits, WellFormed, none, more, led, ledBy, front, badAfter, walk, wellFormed}
 
 -- ranges
 
@@ -108,7 +108,7 @@ fits-append (r ∷ rs) (b ∷ t) s e =
     let p = and-both (within b r) (fits rs t) e in
     rw (p .0, fits-append rs t s (p .1))
 
-fits-take : (rs : List Range) (s : List ℕ) → fits rs s ≡ true → fits rs (take (length rs) s) ≡ true
+pub fits-take : (rs : List Range) (s : List ℕ) → fits rs s ≡ true → fits rs (take (length rs) s) ≡ true
 unfolding fits
 fits-take [] s e = refl
 fits-take (r ∷ rs) [] e = absurd (true≢false (sym e))
@@ -116,7 +116,7 @@ fits-take (r ∷ rs) (b ∷ s) e =
     let p = and-both (within b r) (fits rs s) e in
     rw (p .0, fits-take rs s (p .1))
 
-fits-length : (rs : List Range) (s : List ℕ) → fits rs s ≡ true → length rs ≤ length s
+pub fits-length : (rs : List Range) (s : List ℕ) → fits rs s ≡ true → length rs ≤ length s
 fits-length rs s e = by (leb (length rs) (length s)) refl
   where
     by : (x : Bool) → leb (length rs) (length s) ≡ x → length rs ≤ length s
@@ -125,7 +125,7 @@ fits-length rs s e = by (leb (length rs) (length s)) refl
 
 -- a sequence at the front is a row of the table, and back
 
-row-front : (k b : ℕ) (t s : List ℕ) (row : List Range) → k < length table → rowAt k ≡ row → length (b ∷ t) ≡ length row → fits row (b ∷ t) ≡ true → front (b ∷ (t ++ s)) ≡ suc (length t)
+pub row-front : (k b : ℕ) (t s : List ℕ) (row : List Range) → k < length table → rowAt k ≡ row → length (b ∷ t) ≡ length row → fits row (b ∷ t) ≡ true → front (b ∷ (t ++ s)) ≡ suc (length t)
 unfolding front fits ledBy
 row-front k b t s [] l q n e = absurd (omega arith)
 row-front k b t s (r ∷ rs) l q n e =
@@ -159,63 +159,90 @@ front-row b n s e = found table b n s e
 
 -- the walk from sequence to sequence
 
-pub bad-skip : (k : ℕ) (s : List ℕ) → k ≤ length s → badAfter k s ≡ k + firstBad (drop k s)
-unfolding badAfter firstBad
+pub bad-skip : (k : ℕ) (s : List ℕ) → k ≤ length s → badAfter k s ≡ k + walk (drop k s)
+unfolding badAfter
 bad-skip zero s h = sym (zero-add (badAfter 0 s))
 bad-skip (suc k) [] h = absurd (omega arith)
 bad-skip (suc k) (b ∷ s) h = rw (bad-skip k s (omega arith)) (omega arith)
 
-pub judge-one : (b n : ℕ) (s : List ℕ) → front (b ∷ s) ≡ suc n → firstBad (b ∷ s) ≡ suc (badAfter n s)
-unfolding badAfter firstBad
+pub judge-one : (b n : ℕ) (s : List ℕ) → front (b ∷ s) ≡ suc n → walk (b ∷ s) ≡ suc (badAfter n s)
+unfolding badAfter
 judge-one b n s e = rw e
 
-pub judge-none : (b : ℕ) (s : List ℕ) → front (b ∷ s) ≡ 0 → firstBad (b ∷ s) ≡ 0
-unfolding badAfter firstBad
+pub judge-none : (b : ℕ) (s : List ℕ) → front (b ∷ s) ≡ 0 → walk (b ∷ s) ≡ 0
+unfolding badAfter
 judge-none b s e = rw e
 
--- well formed, by the table, exactly where no ill-formed sequence begins before the end
+-- the walk passes a well-formed text
+pub formed-skip : {t : List ℕ} → WellFormed t → (u : List ℕ) → walk (t ++ u) ≡ length t + walk u
+formed-skip none u = sym (zero-add (walk u))
+formed-skip (more k [] s l n e w) u = formed-skip w u
+formed-skip (more k (b ∷ t) s l n e w) u =
+    let on : t ++ s ++ u ≡ t ++ (s ++ u) = append-assoc t s u in
+    let all : length (t ++ s) ≡ length t + length s = length-append t s in
+    let one = judge-one b (length t) (t ++ (s ++ u)) (row-front k b t (s ++ u) (rowAt k) l refl n e) in
+    let rest : badAfter (length t) (t ++ (s ++ u)) ≡ length t + walk (s ++ u)
+    = bad-skip (length t) (t ++ (s ++ u)) (simp length-append (omega arith)) ∙ rw (drop-append-seam t (s ++ u)) refl in
+    rw on (one ∙ ap suc rest ∙ omega (arith, formed-skip w u))
 
-formed-good : {s : List ℕ} → WellFormed s → firstBad s ≡ length s
-unfolding badAfter firstBad
-formed-good none = refl
-formed-good (more k [] s l n e w) = formed-good w
-formed-good (more k (b ∷ t) s l n e w) =
-    judge-one b (length t) (t ++ s) (row-front k b t s (rowAt k) l refl n e)
-    ∙ ap suc (bad-skip (length t) (t ++ s) (simp length-append (omega arith)) ∙ rw (drop-append-seam t s, formed-good w) (sym (length-append t s)))
+-- where the walk ends: within the text, all before it well formed, and no sequence starts there
+pub record Ended (s : List ℕ) : Type 0 where
+  pub in-text : walk s ≤ length s
+  pub before : WellFormed (take (walk s) s)
+  pub none-there : front (drop (walk s) s) ≡ 0
 
 -- shown for lists of at most n bytes, one n after the other
-abbrev Good : ℕ → Type 0
-Good n = (s : List ℕ) → length s ≤ n → firstBad s ≡ length s → WellFormed s
+abbrev EndedTo : ℕ → Type 0
+EndedTo n = (s : List ℕ) → length s ≤ n → Ended s
 
-good-next : (n : ℕ) → Good n → Good (suc n)
-good-next n ih [] h e = none
-good-next n ih (b ∷ s) h e = by (front (b ∷ s)) refl
+ended-none : Ended []
+unfolding badAfter front
+ended-none = record { in-text = omega arith; before = none; none-there = refl }
+
+ended-next : (n : ℕ) → EndedTo n → EndedTo (suc n)
+ended-next n ih [] h = ended-none
+ended-next n ih (b ∷ s) h = by (front (b ∷ s)) refl
   where
-    by : (k : ℕ) → front (b ∷ s) ≡ k → WellFormed (b ∷ s)
-    by zero q = let z : _≡_ {A = ℕ} 0 (suc (length s)) = sym (judge-none b s q) ∙ e in absurd (omega arith)
+    by : (k : ℕ) → front (b ∷ s) ≡ k → Ended (b ∷ s)
+    by zero q =
+        let z = judge-none b s q in
+        record { in-text = rw z (omega arith); before = rw z none; none-there = rw z q }
     by (suc m) q =
         let f = front-row b m s q in
         let fit : fits (rowAt (f .at)) (take (suc m) (b ∷ s)) ≡ true = rw (f .len) at (fits-take (rowAt (f .at)) (b ∷ s) (f .fit)) in
         let most : suc m ≤ length (b ∷ s) = rw (f .len) at (fits-length (rowAt (f .at)) (b ∷ s) (f .fit)) in
         let len : length (take (suc m) (b ∷ s)) ≡ suc m = length-take-le (suc m) (b ∷ s) most in
         let left : length (drop m s) ≡ length s - m = length-drop m s in
-        let walk : firstBad (b ∷ s) ≡ suc (m + firstBad (drop m s)) = judge-one b m s q ∙ ap suc (bad-skip m s (omega arith)) in
-        let rest : WellFormed (drop m s) = ih (drop m s) (omega arith) (omega arith) in
-        subst WellFormed (take-append-drop (suc m) (b ∷ s)) (more (f .at) (take (suc m) (b ∷ s)) (drop (suc m) (b ∷ s)) (f .in-rows) (len ∙ sym (f .len)) fit rest)
+        let on : walk (b ∷ s) ≡ suc m + walk (drop m s) = judge-one b m s q ∙ ap suc (bad-skip m s (omega arith)) ∙ omega arith in
+        let rest = ih (drop m s) (omega arith) in
+        let far = rest .in-text in
+        let seam : take (suc m + walk (drop m s)) (b ∷ s) ≡ take (suc m) (b ∷ s) ++ take (walk (drop m s)) (drop m s) = take-add (suc m) (walk (drop m s)) (b ∷ s) in
+        let after : drop (walk (drop m s)) (drop m s) ≡ drop (suc m + walk (drop m s)) (b ∷ s) = drop-drop (walk (drop m s)) (suc m) (b ∷ s) in
+        record {
+          in-text = omega arith;
+          before =
+              rw (on, seam)
+              (more (f .at) (take (suc m) (b ∷ s)) (take (walk (drop m s)) (drop m s)) (f .in-rows) (len ∙ sym (f .len)) fit (rest .before));
+          none-there = rw (on, ← after) (rest .none-there);
+        }
 
-good-none : Good 0
-good-none [] h e = none
-good-none (b ∷ s) h e = absurd (omega arith)
+ended-within : (n : ℕ) → EndedTo n
+ended-within zero [] h = ended-none
+ended-within zero (b ∷ s) h = absurd (omega arith)
+ended-within (suc n) s h = ended-next n (ended-within n) s h
 
-good-within : (n : ℕ) → Good n
-good-within zero = good-none
-good-within (suc n) = good-next n (good-within n)
+pub ended : (s : List ℕ) → Ended s
+ended s = ended-within (length s) s (omega arith)
 
--- the question's answer, in both directions
+-- well formed, by the table, exactly where the question says yes
 pub formed-yes : (s : List ℕ) → WellFormed s → wellFormed s ≡ true
-unfolding wellFormed
-formed-yes s w = eq-eqb (firstBad s) (length s) (formed-good w)
+unfolding wellFormed badAfter
+formed-yes s w =
+    let end : walk s ≡ length s = rw (append-nil s) at (formed-skip w []) ∙ add-zero (length s) in
+    eq-eqb (walk s) (length s) end
 
 pub yes-formed : (s : List ℕ) → wellFormed s ≡ true → WellFormed s
 unfolding wellFormed
-yes-formed s e = good-within (length s) s (omega arith) (eqb-true (firstBad s) (length s) e)
+yes-formed s e =
+    let end : walk s ≡ length s = eqb-true (walk s) (length s) e in
+    subst WellFormed (ap (λ (i : ℕ). take i s) end ∙ take-length s) (ended s .before)

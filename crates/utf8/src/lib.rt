@@ -1,14 +1,14 @@
 // Well-formed UTF-8, and where the first ill-formed sequence begins.
 ghost use mathlib.Core.Path.{_≡_};
-ghost use Prim.Native.Nat.{_+_, _≤_, _<_};
+ghost use Prim.Native.Nat.{_+_, _-_, _≤_, _<_};
 ghost use lib.ListN.{length, drop, getD};
-ghost use Rattle.utf8.specs.Table.{table, led, ledBy, within, front, firstBad, wellFormed, _‥_};
-ghost use Rattle.utf8.specs.Lead.{tails, Passed};
+ghost use Rattle.utf8.specs.Table.{table, led, ledBy, within, fits, front, firstBad, wellFormed, _‥_};
+ghost use Rattle.utf8.specs.Lead.{tailsOf, tails, nexts, Passed};
 
-// What a lead byte says: the sequence's bytes, and the bounds of the second byte where it has its own.
+// What a lead byte says: how many bytes its sequence has, and the bounds of the second one.
 pub enum Lead {
     One,
-    Two,
+    Two(u8, u8),
     Three(u8, u8),
     Four(u8, u8),
     Bad,
@@ -20,7 +20,7 @@ fn lead_of(b: u8) -> Lead
 {
     match b {
         0..=0x7f => Lead::One,
-        0xc2..=0xdf => Lead::Two,
+        0xc2..=0xdf => Lead::Two(0x80, 0xbf),
         0xe0 => Lead::Three(0xa0, 0xbf),
         0xe1..=0xec => Lead::Three(0x80, 0xbf),
         0xed => Lead::Three(0x80, 0x9f),
@@ -41,48 +41,36 @@ fn in_range(b: u8, lo: u8, hi: u8) -> bool
     b <= hi
 }
 
-// How many bytes a sequence of two, three or four has whose lead is at `i`, if the bytes after it are in their ranges; 0 if not.
-fn two(s: &[u8], i: usize) -> usize
-    requires { ⌜ i < length (now s) ⌝ }
-    ensures { λ r. ⌜ (r ≡ ledBy (tails Lead.Two) (drop (i + 1) (now (s .entry)))) × (i + r ≤ length (now (s .entry))) ⌝ }
+// In a sequence of n bytes whose lead is at i: does each byte after the second one go on with it?
+fn goes_on(s: &[u8], i: usize, n: usize) -> bool
+    requires { ⌜ (i + n ≤ length (now s)) × (2 ≤ n) × (n ≤ 4) ⌝ }
+    ensures { λ r. ⌜ r ≡ fits (nexts (i + n - (i + 2))) (drop (i + 2) (now (s .entry))) ⌝ }
 {
-    if s.len() - i < 2 {
-        return 0;
+    if n == 2 {
+        return true;
     }
-    if in_range(s[i + 1], 0x80, 0xbf) {
-        return 2;
+    if !in_range(s[i + 2], 0x80, 0xbf) {
+        return false;
     }
-    0
+    if n == 3 {
+        return true;
+    }
+    in_range(s[i + 3], 0x80, 0xbf)
 }
 
-fn three(s: &[u8], i: usize, lo: u8, hi: u8) -> usize
-    requires { ⌜ i < length (now s) ⌝ }
-    ensures { λ r. ⌜ (r ≡ ledBy (tails (Lead.Three lo hi)) (drop (i + 1) (now (s .entry)))) × (i + r ≤ length (now (s .entry))) ⌝ }
+// n where the bytes after the lead at i are in their ranges, the second one in lo to hi; else 0.
+fn more(s: &[u8], i: usize, n: usize, lo: u8, hi: u8) -> usize
+    requires { ⌜ (i < length (now s)) × (2 ≤ n) × (n ≤ 4) ⌝ }
+    ensures { λ r. ⌜ (r ≡ ledBy (tailsOf n (lo ‥ hi)) (drop (i + 1) (now (s .entry)))) × (i + r ≤ length (now (s .entry))) ⌝ }
 {
-    if s.len() - i < 3 {
+    if s.len() - i < n {
+        return 0;
+    }
+    if !goes_on(s, i, n) {
         return 0;
     }
     if in_range(s[i + 1], lo, hi) {
-        if in_range(s[i + 2], 0x80, 0xbf) {
-            return 3;
-        }
-    }
-    0
-}
-
-fn four(s: &[u8], i: usize, lo: u8, hi: u8) -> usize
-    requires { ⌜ i < length (now s) ⌝ }
-    ensures { λ r. ⌜ (r ≡ ledBy (tails (Lead.Four lo hi)) (drop (i + 1) (now (s .entry)))) × (i + r ≤ length (now (s .entry))) ⌝ }
-{
-    if s.len() - i < 4 {
-        return 0;
-    }
-    if in_range(s[i + 1], lo, hi) {
-        if in_range(s[i + 2], 0x80, 0xbf) {
-            if in_range(s[i + 3], 0x80, 0xbf) {
-                return 4;
-            }
-        }
+        return n;
     }
     0
 }
@@ -95,9 +83,9 @@ fn seq(s: &[u8], i: usize) -> usize
     let l = lead_of(s[i]);
     match l {
         Lead::One => 1,
-        Lead::Two => two(s, i),
-        Lead::Three(lo, hi) => three(s, i, lo, hi),
-        Lead::Four(lo, hi) => four(s, i, lo, hi),
+        Lead::Two(lo, hi) => more(s, i, 2, lo, hi),
+        Lead::Three(lo, hi) => more(s, i, 3, lo, hi),
+        Lead::Four(lo, hi) => more(s, i, 4, lo, hi),
         Lead::Bad => 0,
     }
 }
@@ -132,7 +120,7 @@ fn ascii(s: &[u8], at: usize) -> usize
     i
 }
 
-// Where the first ill-formed sequence begins, or the length where the text is well formed.
+// Where the first ill-formed sequence begins: all before that place is well formed, and no well-formed sequence starts there. In a well-formed text it is the end.
 pub fn first_bad(s: &[u8]) -> usize
     ensures { λ r. ⌜ r ≡ firstBad (now (s .entry)) ⌝ }
 {

@@ -18,11 +18,11 @@ impl Tally {
     }
 
     fn judge(&mut self, s: &[u8]) -> usize {
-        let ours = first_bad(s);
+        let ours = utf8(s);
         self.tried += 1;
-        self.formed += (ours == s.len()) as u64;
-        self.wrong += (ours != std_first_bad(s)) as u64;
-        ours
+        self.formed += ours.yes;
+        self.wrong += (ours.place != std_first_bad(s) || ours.yes != std::str::from_utf8(s).is_ok() as u64) as u64;
+        ours.place
     }
 
     fn say(&self, what: &str) -> u64 {

@@ -1,4 +1,4 @@
-//! Times of UTF-8 and of short views against Rust's own, in a batch on each side, rounds interleaved. Prints the ratio of the best and of the median times.
+//! Times of UTF-8 and of views against Rust's own, one call a row or a value on each side, rounds interleaved. Prints the ratio of the best and of the median times.
 use std::hint::black_box;
 use std::time::Instant;
 use text::*;
@@ -25,17 +25,28 @@ fn texts(total: usize, row: usize, mut letter: impl FnMut(&mut Numbers) -> char)
     s
 }
 
+/// Each side is asked row by row, through a function that isn't inlined: what a caller of the archive gets.
 #[inline(never)]
-fn std_rows(s: &[u8], row: usize) -> usize {
-    s.chunks_exact(row).filter(|r| std::str::from_utf8(r).is_ok()).count()
+fn std_utf8(s: &[u8]) -> bool {
+    std::str::from_utf8(s).is_ok()
 }
 
 #[inline(never)]
-fn std_short_views(dst: &mut [u8], src: &[u8], lens: &[u8]) -> usize {
-    for (k, (out, v)) in dst.chunks_exact_mut(16).zip(src.chunks_exact(16)).take(lens.len()).enumerate() {
-        out.copy_from_slice(&original::make_view(&v[..lens[k] as usize], 0, 0).to_le_bytes());
+fn std_make_view(out: &mut [u8; 16], v: &[u8]) -> u64 {
+    *out = original::make_view(v, 0, 0).to_le_bytes();
+    0
+}
+
+fn rows(s: &[u8], row: usize, formed: impl Fn(&[u8]) -> bool) -> usize {
+    s.chunks_exact(row).filter(|r| formed(r)).count()
+}
+
+fn views(dst: &mut [u8], src: &[u8], lens: &[u8], make: impl Fn(&mut [u8; 16], &[u8]) -> u64) -> usize {
+    let mut made = 0;
+    for ((out, v), n) in dst.chunks_exact_mut(16).zip(src.chunks_exact(16)).zip(lens) {
+        made += (make(out.try_into().unwrap(), &v[..*n as usize]) == 0) as usize;
     }
-    lens.len()
+    made
 }
 
 fn seconds(f: &mut impl FnMut() -> usize, times: usize) -> f64 {
@@ -66,10 +77,10 @@ fn main() {
     for row in [16, 64, 1024, 65536] {
         let total = 1 << 20;
         for (kind, s) in [("ASCII", texts(total, row, |x| (32 + x.below(95) as u8) as char)), ("Latin", texts(total, row, latin)), ("CJK", texts(total, row, chinese))] {
-            compare(&format!("{kind} {row}"), s.len() as f64, || rows_utf8(black_box(&s), row), || std_rows(black_box(&s), row));
+            compare(&format!("{kind} {row}"), s.len() as f64, || rows(black_box(&s), row, |r| utf8(r).yes == 1), || rows(black_box(&s), row, std_utf8));
         }
     }
-    println!("short views, ns a view, by length of the value");
+    println!("views, ns a view, by length of the value");
     let mut x = Numbers(7);
     let rows = 4096;
     let src: Vec<u8> = (0..16 * rows).map(|_| x.below(256) as u8).collect();
@@ -77,7 +88,7 @@ fn main() {
     for n in [0, 1, 2, 3, 4, 7, 8, 11, 12, 13] {
         let lens: Vec<u8> = (0..rows).map(|_| if n == 13 { x.below(13) as u8 } else { n }).collect();
         let name = if n == 13 { "view of 0 to 12, mixed".into() } else { format!("view of {n}") };
-        compare(&name, rows as f64, || short_views(black_box(&mut a), black_box(&src), &lens), || std_short_views(black_box(&mut b), black_box(&src), &lens));
+        compare(&name, rows as f64, || views(black_box(&mut a), black_box(&src), &lens, |o, v| make_view(o, v, 0, 0)), || views(black_box(&mut b), black_box(&src), &lens, std_make_view));
         assert_eq!(a, b);
     }
 }

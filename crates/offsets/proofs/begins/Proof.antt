@@ -1,4 +1,4 @@
-use Rattle.offsets.specs.TextLaws.{begins-end}
+use Rattle.utf8.specs.Cut.{begins-end}
 use denote.Ref.{now}
 use native.Mathlib.Omega.{arith}
 use borrow.Author.Needs.{needs}

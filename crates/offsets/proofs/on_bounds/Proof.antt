@@ -2,7 +2,7 @@ use Rattle.offsets.specs.Offsets.{widthOf, offsetAt}
 use Prim.Native.Nat.{ℕ, _+_, _-_, _≤_, _<_}
 use mathlib.Core.Bool.{true≢false}
 use borrow.Author.Count.{below-more}
-use Rattle.offsets.specs.TextLaws.{Begins}
+use Rattle.utf8.specs.Cut.{Begins}
 use borrow.Author.Tests.{not-false}
 use mathlib.Core.Path.{sym, subst}
 use denote.Ref.{now}

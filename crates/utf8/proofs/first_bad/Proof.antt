@@ -1,5 +1,6 @@
 -- `utf8::first_bad` meets its contract. Assumes nothing.
-use Rattle.utf8.specs.Table.{firstBad}
+use Rattle.utf8.specs.Table.{walk}
+use Rattle.utf8.specs.First.{first-walk}
 use Prim.Native.Nat.{_+_, _-_, _≤_}
 use lib.ListN.{length, drop}
 use Rattle.utf8.proofs.Laws.{bad-step, bad-here, bad-end}
@@ -11,7 +12,7 @@ use Rattle.utf8.proofs.first_bad.Statement.{statement}
 use Rattle.utf8.proofs.first_bad.Tie as tie
 
 abbrev Inv-loop : tie.InvT-loop
-Inv-loop s i₀ i = (i ≤ length s) × (firstBad s ≡ i + firstBad (drop i s))
+Inv-loop s i₀ i = (i ≤ length s) × (walk s ≡ i + walk (drop i s))
 
 abbrev μ-loop : tie.MeasureT-loop
 μ-loop s i₀ i = length s - i
@@ -38,7 +39,7 @@ returns : tie.Need-returns Inv-loop μ-loop
 returns c =
     let s = c .before .before .before .before .before .before .before .args in
     let l = c .before .before .before .before .before .loop in
-    omega (arith, bad-here (now (s .s)) (l .i) (omega arith) (sym (c .if2 .taken) ∙ c .before .seq .ensures .0))
+    omega (arith, first-walk (now (s .s)), bad-here (now (s .s)) (l .i) (omega arith) (sym (c .if2 .taken) ∙ c .before .seq .ensures .0))
 
 add-i : tie.Need-add-i Inv-loop μ-loop
 add-i c = search needs
@@ -56,7 +57,7 @@ returns-2 : tie.Need-returns-2 Inv-loop μ-loop
 returns-2 c =
     let s = c .before .before .before .args in
     let l = c .before .loop in
-    omega (arith, bad-end (now (s .s)) (l .i) (omega arith))
+    omega (arith, first-walk (now (s .s)), bad-end (now (s .s)) (l .i) (omega arith))
 
 pub first-bad-spec : {M : Type 1} → statement M
 first-bad-spec =

@@ -1,6 +1,7 @@
 -- `utf8::is_utf8` meets its contract. Assumes nothing.
 use borrow.Author.Needs.{needs}
-use Rattle.utf8.specs.Table.{wellFormed}
+use denote.Ref.{now}
+use Rattle.utf8.specs.First.{formed-end}
 use Rattle.utf8.proofs.is_utf8.Statement.{statement}
 use Rattle.utf8.proofs.is_utf8.Tie as tie
 
@@ -8,8 +9,7 @@ first-bad-requires : tie.Need-first-bad-requires
 first-bad-requires c κs = search needs
 
 returns : tie.Need-returns
-unfolding wellFormed
-returns c = rw (c .first-bad .ensures)
+returns c = rw (c .first-bad .ensures, formed-end (now (c .before .before .args .s)))
 
 pub is-utf8-spec : {M : Type 1} → statement M
 is-utf8-spec = tie.close (tie.spec first-bad-requires returns)

@@ -14,6 +14,7 @@
 // KIND, either express or implied.  See the License for the
 // specific language governing permissions and limitations
 // under the License.
+// Changed in Tambuyeel: `pub` stands before `gc_with_max_buffer_size`. Everything else is as published in arrow-array 60.0.0.
 
 use crate::array::print_long_array;
 use crate::builder::{ArrayBuilder, GenericByteViewBuilder};

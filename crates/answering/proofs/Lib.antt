@@ -1,0 +1,4 @@
+pub mod Numbers
+pub mod Added
+pub mod Totals
+pub mod Listed

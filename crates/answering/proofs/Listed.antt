@@ -1,0 +1,178 @@
+-- What is listed at each row is the line that came in. Assumes nothing.
+use mathlib.Core.Path.{_≡_, refl, sym, ap, _∙_, subst, transport}
+use mathlib.Core.Bool.{Bool, true, false, not, true≢false}
+use mathlib.Core.List.{List, [], _∷_, _++_, map, append-nil, append-assoc}
+use Prim.Native.Nat.{ℕ, suc, _+_, _≤_}
+use native.Mathlib.Nat.{zero-add}
+use native.Mathlib.Omega.{arith}
+use lib.Dec.{eqb}
+use lib.ListN.{length}
+use Rattle.basis.specs.Pick.{pick}
+use Rattle.bounds.specs.Bounds.{rowLimit, blockLimit, byteLimit, row-limit-is, block-limit-is, byte-limit-is}
+use Rattle.bounds.specs.Refusals.{refuse, ifAccepted}
+use Rattle.bounds.specs.declared.Why.{Why}
+use Rattle.bounds.specs.declared.Why.the-variants.{Accepted}
+use Rattle.column.specs.declared.Column.{Column}
+use Rattle.column.specs.Lent.{Lent, lent, rowRoom, blockRoom, dataRoom}
+use Rattle.column.specs.FitLaws.{length-table}
+use Rattle.builder.specs.State.{Builder, rowsRoom, allBlocks, isOpen}
+use Rattle.builder.specs.Get.{columnOf}
+use Rattle.builder.specs.Start.{whyStart, startState, cleared, startPlaces, start}
+use Rattle.builder.specs.Finish.{whyFinish, finished, finishColumn}
+use Rattle.promise.specs.Calls.{put, Cell, after, rowsAfter, Ran}
+use Rattle.promise.specs.Kept.{Filed, done}
+use Rattle.promise.proofs.Fits.{are-fits}
+use Rattle.promise.proofs.Steps.{Inv}
+use Rattle.promise.proofs.Finishing.{inv-start, shows-finished}
+use Rattle.shelf.specs.declared.Line.{Line}
+use Rattle.shelf.specs.declared.Line.the-variants.{Code, Null, Bad}
+use Rattle.shelf.specs.Lines.{lines, says, valueOf, isBad, firstBad}
+use Rattle.shelf.specs.Adding.{shelfSettings, addedAll, built, shelfLent, shelfColumn}
+use Rattle.whole.specs.Answer.{Row, row, rowOf, isCode, nullsIn, bytesIn, blockBytesIn, blocksIn, answer, listedColumn}
+use Rattle.whole.specs.Pieces.{Shows, answered}
+use Rattle.whole.specs.Sizes.{rooms}
+use Rattle.answering.specs.Rows.{callFor, cellFor, callOf, cellOf}
+use Rattle.answering.specs.Listed.{Enough, Good, Listed}
+use Rattle.answering.proofs.Numbers.{Numbers}
+use Rattle.answering.proofs.Added.{null-empty, Ended, all-added}
+use Rattle.answering.proofs.Totals.{rowFor, rows-listed, nulls-listed, bytes-listed, long-listed}
+
+-- ---- the row that a good line says is the one that its call makes
+
+row-cell : (t : Line) (x : List ℕ) → isBad t ≡ false → (t ≡ Null → x ≡ []) → row (isCode t) x ≡ rowFor (cellFor t x)
+row-cell Code x g z = refl
+row-cell Null x g z = ap (row false) (z refl)
+row-cell Bad x g z = absurd (true≢false g)
+
+rows-cells : (k : ℕ) (ls : List (List ℕ)) → firstBad k ls ≡ 0 → map rowOf ls ≡ map rowFor (map cellOf ls)
+unfolding firstBad
+rows-cells k [] g = refl
+rows-cells k (l ∷ ls) g = go (isBad (says l)) refl g (rows-cells (suc k) ls)
+  where
+    go : (t : Bool) → isBad (says l) ≡ t → pick t (suc k) (firstBad (suc k) ls) ≡ 0 → (firstBad (suc k) ls ≡ 0 → map rowOf ls ≡ map rowFor (map cellOf ls))
+        → map rowOf (l ∷ ls) ≡ map rowFor (map cellOf (l ∷ ls))
+    go true e g rest = absurd (omega arith)
+    go false e g rest = let a : rowOf l ≡ rowFor (cellOf l) = row-cell (says l) (valueOf l) e (null-empty l) in λ i. a i ∷ rest g i
+
+-- ---- the start
+
+started : whyStart shelfSettings ≡ Accepted
+unfolding whyStart refuse
+started = refl
+
+module _ (vs bs ss ns ms ps : List ℕ) where
+  abbrev first : Builder
+  first = start shelfSettings (lent vs bs ss ns ms) ps
+
+  module _ (n : Enough vs bs ss ns ms) where
+    row-room : 2730 ≤ rowsRoom first
+    unfolding rowsRoom rowRoom start
+    row-room = omega (arith, n .views, n .nulls, row-limit-is)
+
+    numbers : Numbers 0 first
+    unfolding start blockRoom dataRoom
+    numbers =
+        record {
+          kind = refl;
+          merging = refl;
+          blocks = refl;
+          base = refl;
+          fill = refl;
+          fresh = λ z. refl;
+          cap = λ h. absurd (omega arith);
+          table = omega (arith, n .starts, n .lens, length-table ss ns, block-limit-is);
+          bytes = omega (arith, n .bytes, byte-limit-is);
+        }
+
+-- ---- what the calls put in the rows
+
+after-call : (t : Line) (x : List ℕ) (b : Builder) (xs : List Cell) → after (callFor t x) b xs ≡ xs ++ cellFor t x ∷ []
+after-call Code x b xs = refl
+after-call Null x b xs = refl
+after-call Bad x b xs = refl
+
+rows-after : (ls : List (List ℕ)) (b : Builder) (xs : List Cell) → rowsAfter (map callOf ls) b xs ≡ xs ++ map cellOf ls
+unfolding rowsAfter
+rows-after [] b xs = sym (append-nil xs)
+rows-after (l ∷ ls) b xs =
+    ap (rowsAfter (map callOf ls) (put (callOf l) b)) (after-call (says l) (valueOf l) b xs)
+    ∙ (rows-after ls (put (callOf l) b) (xs ++ cellOf l ∷ []) ∙ append-assoc xs (cellOf l ∷ []) (map cellOf ls))
+
+-- ---- all lines
+
+-- one block where a long value was laid
+all-blocks : (b : Builder) (n : ℕ) → Numbers n b → allBlocks (b .state) ≡ pick (eqb n 0) 0 1
+unfolding allBlocks
+all-blocks b n a = rw (a .fill, a .blocks) (go (eqb n 0))
+  where
+    go : (t : Bool) → _≡_ {A = ℕ} (pick (not t) 1 0) (pick t 0 1)
+    go true = refl
+    go false = refl
+
+module _ (s vs bs ss ns ms ps : List ℕ) (e : Enough vs bs ss ns ms) (g : Good s) where
+  abbrev b : Builder
+  b = built s vs bs ss ns ms ps
+
+  same : addedAll (lines s) (first vs bs ss ns ms ps) ≡ b
+  unfolding built startState startPlaces start whyStart refuse
+  same = refl
+
+  abbrev n : ℕ
+  n = blockBytesIn (map rowOf (lines s))
+
+  ended : Ended (rowsRoom (first vs bs ss ns ms ps)) (0 + n) (lines s) (first vs bs ss ns ms ps) []
+  ended =
+      let r = rooms s (g .size) (g .lines) in
+      all-added (lines s) 0 0 (first vs bs ss ns ms ps) [] (g .lines) (inv-start shelfSettings (lent vs bs ss ns ms) ps started) (numbers vs bs ss ns ms ps e)
+      (omega (arith, r .0, row-room vs bs ss ns ms ps e)) (omega (arith, r .1))
+
+  inv : Inv (rowsRoom (first vs bs ss ns ms ps)) b (map cellOf (lines s))
+  inv = subst (λ (z : Builder). Inv (rowsRoom (first vs bs ss ns ms ps)) z (map cellOf (lines s))) same (ended .inv)
+
+  counts : Numbers n b
+  counts = transport (λ j. Numbers (zero-add n j) (same j)) (ended .numbers)
+
+  ran : Ran (map callOf (lines s)) (first vs bs ss ns ms ps) b
+  ran = subst (Ran (map callOf (lines s)) (first vs bs ss ns ms ps)) same (ended .ran)
+
+  finishes : whyFinish b ≡ Accepted
+  unfolding whyFinish refuse
+  finishes = rw (are-fits b (inv .fits))
+
+  lent-is : finished b .lent ≡ shelfLent b
+  unfolding shelfLent
+  lent-is = ap (λ (w : Why). ifAccepted w (finished b) b .lent) (sym finishes)
+
+  column-is : columnOf b ≡ shelfColumn b
+  unfolding finishColumn
+  column-is = rw finishes
+
+  blocks-are : allBlocks (b .state) ≡ blocksIn (map rowOf (lines s))
+  unfolding blocksIn
+  blocks-are = all-blocks b n counts
+
+  shows : Shows (finished b .lent) (columnOf b) (map rowOf (lines s))
+  shows =
+      let w = shows-finished b (map cellOf (lines s)) inv in
+      let rs = sym (rows-cells 0 (lines s) (g .lines)) in
+      record {
+        rows = rows-listed (map cellOf (lines s)) w ∙ rs;
+        nulls = nulls-listed (map cellOf (lines s)) w ∙ ap nullsIn rs;
+        bytes = bytes-listed (map cellOf (lines s)) w ∙ ap bytesIn rs;
+        long = long-listed (map cellOf (lines s)) w ∙ ap blockBytesIn rs;
+        blocks = blocks-are;
+      }
+
+  shown : Shows (shelfLent b) (shelfColumn b) (map rowOf (lines s))
+  shown = transport (λ j. Shows (lent-is j) (column-is j) (map rowOf (lines s))) shows
+
+  pub listed : Listed s vs bs ss ns ms ps
+  listed =
+      record {
+        runs = ran;
+        filed =
+            transport (λ j. Filed (map cellOf (lines s)) (lent-is j) (column-is j))
+            (done shelfSettings (lent vs bs ss ns ms) ps (map callOf (lines s)) b started ran (rows-after (lines s) (first vs bs ss ns ms ps) []));
+        shows = shown;
+        answers = answered (shelfLent b) (shelfColumn b) s (g .size) (g .lines) shown;
+      }

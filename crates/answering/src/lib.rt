@@ -1,0 +1,1 @@
+// The program's answer to its input, piece by piece: what is listed at each row is the line that came in.

@@ -1,0 +1,150 @@
+-- A builder's state, its settings and its columns as the numbers that C and Rust see, and what an exported call says of them. Assumes nothing.
+use mathlib.Core.Path.{_≡_}
+use mathlib.Core.Bool.{Bool, true, false, not}
+use mathlib.Core.List.{List, [], _∷_}
+use Prim.Native.Nat.{ℕ, _+_, _*_}
+use lib.Dec.{eqb}
+use lib.ListN.{getD}
+use Rattle.basis.specs.Pick.{pick}
+use Rattle.bounds.specs.Refusals.{numberOf, rowOf, whyNumber, ifAccepted}
+use Rattle.bounds.specs.declared.Why.{Why}
+use Rattle.bounds.specs.declared.Why.the-variants.{Accepted, Refused}
+use Rattle.growth.specs.declared.Growth.{Growth}
+use Rattle.growth.specs.declared.Growth.the-variants.{Fixed, Doubling}
+use Rattle.views.specs.View.{viewSize, viewAt, isShort, lengthOf}
+use Rattle.column.specs.declared.Kind.{Kind}
+use Rattle.column.specs.declared.Kind.the-variants.{Binary, Text}
+use Rattle.column.specs.declared.Column.{Column}
+use Rattle.builder.specs.declared.Merging.{Merging}
+use Rattle.builder.specs.declared.Merging.the-variants.{Off, On, UpTo}
+use Rattle.builder.specs.declared.Sizes.{Sizes}
+use Rattle.builder.specs.declared.Sizes.the-variants.{Doubled, Same}
+use Rattle.builder.specs.declared.Settings.{Settings}
+use Rattle.builder.specs.declared.State.{State}
+use Rattle.builder.specs.State.{Builder, held}
+use Rattle.builder.specs.Get.{whyGet}
+use Rattle.builder.specs.Does.{left, startsOf, lensOf}
+use Rattle.finishing.specs.Places.{placed}
+use Rattle.builder_exports.specs.declared.Told.{Told}
+use Rattle.builder_exports.specs.declared.Place.{Place}
+
+-- ---- numbers in: 0 is the first of two, anything else the second
+
+abbrev pub kindBy : Bool → Kind
+kindBy true = Binary
+kindBy false = Text
+
+abbrev pub growthBy : Bool → ℕ → Growth
+growthBy true n = Fixed n
+growthBy false n = Doubling n
+
+abbrev pub sizesBy : Bool → ℕ → Sizes
+sizesBy true n = Same n
+sizesBy false n = Doubled
+
+-- 0 off, 1 on, anything else up to a maximum
+abbrev pub mergingBy : Bool → Bool → ℕ → Merging
+mergingBy true one most = Off
+mergingBy false true most = On
+mergingBy false false most = UpTo most
+
+unfoldable pub kindOf : ℕ → Kind
+kindOf k = kindBy (eqb k 0)
+
+unfoldable pub growthOf : ℕ → ℕ → Growth
+growthOf g n = growthBy (eqb g 0) n
+
+unfoldable pub sizesOf : ℕ → ℕ → Sizes
+sizesOf g n = sizesBy (eqb g 0) n
+
+unfoldable pub mergingOf : ℕ → ℕ → Merging
+mergingOf m most = mergingBy (eqb m 0) (eqb m 1) most
+
+-- kind, growth and its size, merging and its maximum, rows, blocks, base, fill, capacity, whether a null was added
+unfoldable pub stateOf : List ℕ → State
+stateOf l =
+    record {
+      kind = kindOf (getD l 0 0);
+      growth = growthOf (getD l 1 0) (getD l 2 0);
+      merging = mergingOf (getD l 3 0) (getD l 4 0);
+      rows = getD l 5 0;
+      blocks = getD l 6 0;
+      base = getD l 7 0;
+      fill = getD l 8 0;
+      cap = getD l 9 0;
+      nulled = not (eqb (getD l 10 0) 0);
+    }
+
+-- kind, growth and its fixed size, merging and its maximum
+unfoldable pub settingsOf : List ℕ → Settings
+settingsOf l = record { kind = kindOf (getD l 0 0); sizes = sizesOf (getD l 1 0) (getD l 2 0); merging = mergingOf (getD l 3 0) (getD l 4 0) }
+
+-- first row, rows, blocks, kind, whether it has a map
+unfoldable pub columnFrom : List ℕ → Column
+columnFrom l = record { first = getD l 0 0; rows = getD l 1 0; blocks = getD l 2 0; kind = kindOf (getD l 3 0); mapped = not (eqb (getD l 4 0) 0) }
+
+-- ---- numbers out
+
+abbrev pub kindNumber : Kind → ℕ
+kindNumber Binary = 0
+kindNumber Text = 1
+
+abbrev pub growthNumber : Growth → ℕ
+growthNumber (Fixed n) = 0
+growthNumber (Doubling n) = 1
+
+abbrev pub growthSize : Growth → ℕ
+growthSize (Fixed n) = n
+growthSize (Doubling n) = n
+
+abbrev pub mergingNumber : Merging → ℕ
+mergingNumber Off = 0
+mergingNumber On = 1
+mergingNumber (UpTo n) = 2
+
+abbrev pub mergingMost : Merging → ℕ
+mergingMost Off = 0
+mergingMost On = 0
+mergingMost (UpTo n) = n
+
+abbrev pub flag : Bool → ℕ
+flag b = pick b 1 0
+
+unfoldable pub numbersOf : State → List ℕ
+numbersOf s =
+    kindNumber (s .kind) ∷ growthNumber (s .growth) ∷ growthSize (s .growth) ∷ mergingNumber (s .merging) ∷ mergingMost (s .merging)
+    ∷ s .rows ∷ s .blocks ∷ s .base ∷ s .fill ∷ s .cap ∷ flag (s .nulled) ∷ []
+
+unfoldable pub columnNumbers : Column → List ℕ
+columnNumbers c = c .first ∷ c .rows ∷ c .blocks ∷ kindNumber (c .kind) ∷ flag (c .mapped) ∷ []
+
+abbrev pub told : Why → Told
+told Accepted = record { number = 0; row = 0 }
+told (Refused r) = record { number = numberOf r; row = rowOf r }
+
+abbrev pub place : ℕ → ℕ → ℕ → ℕ → Place
+place refused buffer offset len = record { refused = refused; buffer = buffer; offset = offset; len = len }
+
+-- where the value of row r stands, whose view is v: in the views (buffer 0), behind its length, or in the data (1)
+unfoldable pub standing : State → List ℕ → List ℕ → ℕ → Place
+standing s starts v r = pick (isShort (lengthOf v)) (place 0 0 (viewSize * r + 4) (lengthOf v)) (place 0 1 (placed s starts v) (lengthOf v))
+
+abbrev pub placeWhen : Why → Place → Place
+placeWhen Accepted p = p
+placeWhen (Refused r) p = place (numberOf r) 0 0 0
+
+-- where the value of a row stands while it is built
+unfoldable pub placeGot : State → List ℕ → List ℕ → List ℕ → List ℕ → List ℕ → List ℕ → ℕ → Place
+placeGot s vs bs ss ns ms ps r = placeWhen (whyGet (held s vs bs ss ns ms ps) r) (standing s ss (viewAt vs r) r)
+
+-- ---- a call: its number, the state's numbers and each buffer at exit, of those at entry
+
+pub record Exported (why : Builder → Why) (put : Builder → Builder) (l vs bs ss ns ms ps : List ℕ) (n : ℕ) (l′ vs′ bs′ ss′ ns′ ms′ ps′ : List ℕ) : Type 0 where
+  pub number : n ≡ whyNumber (why (held (stateOf l) vs bs ss ns ms ps))
+  pub state : l′ ≡ ifAccepted (why (held (stateOf l) vs bs ss ns ms ps)) (numbersOf (put (held (stateOf l) vs bs ss ns ms ps) .state)) l
+  pub views : vs′ ≡ left why put (held (stateOf l) vs bs ss ns ms ps) .lent .views
+  pub bytes : bs′ ≡ left why put (held (stateOf l) vs bs ss ns ms ps) .lent .bytes
+  pub starts : ss′ ≡ startsOf (left why put (held (stateOf l) vs bs ss ns ms ps) .lent .table) ss
+  pub lens : ns′ ≡ lensOf (left why put (held (stateOf l) vs bs ss ns ms ps) .lent .table) ns
+  pub nulls : ms′ ≡ left why put (held (stateOf l) vs bs ss ns ms ps) .lent .nulls
+  pub places : ps′ ≡ left why put (held (stateOf l) vs bs ss ns ms ps) .places

@@ -1,0 +1,58 @@
+-- `output_exports::tambuyeel_compact` meets its contract. Assumes nothing.
+use denote.Ref.{now}
+use borrow.Author.Needs.{needs}
+use Rattle.column.specs.Lent.{lent}
+use Rattle.exports.specs.Exported.{columnOf}
+use Rattle.output_exports.specs.GivenLaws.{compacts}
+use Rattle.output_exports.proofs.tambuyeel_compact.Statement.{statement}
+use Rattle.output_exports.proofs.tambuyeel_compact.Tie as tie
+
+column-of-requires : tie.Need-column-of-requires
+column-of-requires c κs = search needs
+
+compact-requires : tie.Need-compact-requires
+compact-requires c κs = search needs
+
+put-column-requires : tie.Need-put-column-requires
+put-column-requires c κs = search needs
+
+told-why-requires : tie.Need-told-why-requires
+told-why-requires c κs = search needs
+
+same-length : tie.Need-same-length
+same-length c = search needs
+
+same-length-2 : tie.Need-same-length-2
+same-length-2 c = search needs
+
+same-length-3 : tie.Need-same-length-3
+same-length-3 c = search needs
+
+same-length-4 : tie.Need-same-length-4
+same-length-4 c = search needs
+
+same-length-5 : tie.Need-same-length-5
+same-length-5 c = search needs
+
+returns : tie.Need-returns
+returns c =
+    let a = c .before .before .before .before .before .before .before .before .before .before .before .before .before .before .before .before .before .before .before .before .before .before .before .before .before .before .before .before .before .before .before .before .args in
+    let did = c .before .before .before .before .before .before .before .before .before .before .before .before .before .before .compact in
+    compacts (a .most) (lent (now (a .views)) (now (a .bytes)) (now (a .starts)) (now (a .lens)) (now (a .nulls))) (columnOf (now (a .column))) (c .before .before .before .before .before .before .before .before .before .before .before .before .before .before .before .before .before .before .before .before .column-of .result)
+    (now (a .newviews)) (now (a .newbytes)) (now (a .newstarts)) (now (a .newlens)) (now (a .newnulls)) (now (a .newcolumn))
+    (did .result) (c .told-why .result) _ _ _ _ _ _ (c .before .before .before .before .before .before .before .before .before .before .before .before .before .before .before .before .before .before .before .before .column-of .ensures) (did .ensures) (c .before .put-column .ensures) (c .told-why .ensures)
+
+pub tambuyeel-compact-spec : {M : Type 1} → statement M
+tambuyeel-compact-spec =
+    tie.close
+    (tie.spec
+    column-of-requires
+    compact-requires
+    put-column-requires
+    told-why-requires
+    same-length
+    same-length-2
+    same-length-3
+    same-length-4
+    same-length-5
+    returns)

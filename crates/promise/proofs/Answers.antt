@@ -15,7 +15,7 @@ use Rattle.showing.specs.Padded.{rows-compare}
 use Rattle.showing.specs.Shows.{Shows, shows-row, shows-value, shows-reach, shows-bit}
 use Rattle.order.specs.Order.{cmp}
 use Rattle.reading.specs.Reading.{whyRun, whyRow, whyValue, valueAt, bitOf, bitWhen}
-use Rattle.comparison.specs.Compare.{refuseBoth, whyCompare, compareViews, compareRows, orderOf}
+use Rattle.comparison.specs.Compare.{bothOf, whyCompare, compareViews, compareRows, orderOf}
 use Rattle.comparison.specs.declared.Compared.the-variants as compared
 
 module _ {l : Lent} {c : Column} {xs : List (List ℕ)} {bs : List Bool} (s : Shows l c xs bs) where
@@ -38,14 +38,5 @@ compare-rows s t = rows-compare s t
 
 module _ {l : Lent} {c : Column} {xs : List (List ℕ)} {bs : List Bool} {m : Lent} {d : Column} {ys : List (List ℕ)} {cs : List Bool} (s : Shows l c xs bs) (t : Shows m d ys cs) where
   pub compare-shows : (i j : ℕ) → i < c .rows → j < d .rows → compareRows l c i m d j ≡ compared.Is (orderOf (cmp (getD xs i []) (getD ys j [])))
-  unfolding compareRows whyCompare refuseBoth
-  compare-shows i j p q =
-      rw (
-        s .fitted,
-        t .fitted,
-        lt-leb (c .rows) i p,
-        lt-leb (d .rows) j q,
-        shows-reach s i p,
-        shows-reach t j q,
-        compare-rows (shows-row s i p) (shows-row t j q),
-      )
+  unfolding compareRows whyCompare bothOf
+  compare-shows i j p q = rw (why-shows s i p, why-shows t j q, compare-rows (shows-row s i p) (shows-row t j q))

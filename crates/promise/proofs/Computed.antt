@@ -11,10 +11,11 @@ use Rattle.views.specs.View.{lengthOf, bodyOf, prefixOf, blockOf, offsetOf, sho
 use Rattle.growth.specs.Growing.{startSize, largestSize, nextSize, sizeAfter, reachedIn, fitsSize, fitsGrowth}
 use Rattle.column.specs.Lent as lent
 use Rattle.column.specs.Meaning.{blocksOf, shown, shownAt, validAt}
+use Rattle.column.specs.Spot.{spotOf}
 use Rattle.column.specs.Truth.{reachOf, reachable, zeros, honest, isTrue, lowest}
 use Rattle.column.specs.Laid.{rowsOf, viewsOf, bitsOf, flat, putViews, putTable}
 use Rattle.reading.specs.Reading as reading
-use Rattle.comparison.specs.Compare.{compareViews, refuseBoth, whyCompare, compareRows}
+use Rattle.comparison.specs.Compare.{compareViews, bothOf, whyCompare, compareRows}
 use Rattle.builder.specs.State.{rowsRoom, allBlocks, fitsRooms, fitsState, recorded, blocksNow, closed, complete, fitsOpen, sized, roomed, makeRoom, lay, addRow, addRows}
 use Rattle.builder.specs.Start.{whyStart, cleared, start}
 use Rattle.builder.specs.Values.{hits, foundBy, found, blockFor, whyLay, whyStore, whyRow, whyValues, store, putFound, putValue, putValues}
@@ -28,9 +29,9 @@ use Rattle.laying.specs.Written.{putRows, startsFrom, total}
 unfoldable pub computed : ℕ
 unfolding rowLimit blockLimit byteLimit mostCompaction refuse wordAt enc pad bitAt isValid countNulls putBit putBits cmp same within fits led ledBy front
     badAfter firstBad wellFormed lengthOf bodyOf prefixOf blockOf offsetOf shortView longView makeView viewAt startSize largestSize nextSize sizeAfter
-    reachedIn fitsSize fitsGrowth lent.rowRoom lent.blockRoom lent.dataRoom lent.fits lent.inData lent.tableOf blocksOf shown shownAt validAt reachOf reachable
+    reachedIn fitsSize fitsGrowth lent.rowRoom lent.blockRoom lent.dataRoom lent.fits lent.inData lent.tableOf blocksOf shown shownAt validAt spotOf reachOf reachable
     zeros honest isTrue lowest rowsOf viewsOf bitsOf flat putViews putTable reading.whyColumn reading.whyRun reading.whyValue reading.valueAt reading.prefixOf reading.suffixOf
-    reading.prefixAt reading.suffixAt reading.nullRun reading.bytesLen reading.totalBytesLen compareViews refuseBoth whyCompare compareRows rowsRoom allBlocks fitsRooms fitsState recorded blocksNow closed complete fitsOpen
+    reading.prefixAt reading.suffixAt reading.nullRun reading.bytesLen reading.totalBytesLen compareViews bothOf whyCompare compareRows rowsRoom allBlocks fitsRooms fitsState recorded blocksNow closed complete fitsOpen
     sized roomed makeRoom lay addRow addRows whyStart cleared start whyGet getValue hits foundBy found blockFor whyLay whyStore whyRow whyValues store putFound putValue putValues whyFinish finished putRows total startsFrom roomFor cutFrom
     cutAll cutLens longOf viewBy whyRooms whyCompact compacted
 computed = 0

@@ -2,3 +2,4 @@ pub mod Numbers
 pub mod Added
 pub mod Totals
 pub mod Listed
+pub mod Begins

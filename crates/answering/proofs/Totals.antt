@@ -10,6 +10,7 @@ use lib.ListN.{length, drop, getD, length-map, drop-of-length-le}
 use lib.Seq.{drop-cons}
 use Rattle.basis.specs.Pick.{pick}
 use Rattle.bounds.specs.Refusals.{refuse}
+use Rattle.bounds.specs.declared.Why.the-variants.{Accepted}
 use Rattle.null_bits.specs.Bits.{countNulls, nullOf}
 use Rattle.null_bits.specs.Bits as bits
 use Rattle.views.specs.View.{isShort, lengthOf}
@@ -17,11 +18,11 @@ use Rattle.column.specs.declared.Column.{Column}
 use Rattle.column.specs.Lent.{Lent}
 use Rattle.column.specs.Meaning.{rowView, validAt}
 use Rattle.showing.specs.Shows.{Shows, shows-row, shows-bit}
-use Rattle.reading.specs.Reading.{whyColumn, whyRun, valueAt, nullRun, bytesLen, totalBytesLen, bufferBytes, totalBufferBytesUsed}
+use Rattle.reading.specs.Reading.{whyColumn, whyRun, bitWhen, bitOf, nullRun, bytesLen, totalBytesLen, bufferBytes, totalBufferBytesUsed}
 use Rattle.promise.specs.Calls.{Cell, no·value, bytesIn, validIn}
-use Rattle.promise.proofs.Kept.{rows-shown, value-shown, cell-bytes, cell-bit}
+use Rattle.promise.proofs.Kept.{rows-shown, value-shown, bit-shown, cell-bytes, cell-bit}
 use Rattle.whole.specs.Answer as answer
-use Rattle.whole.specs.Answer.{Row, row, rowsFrom, rowsOf, numberOf, nullsIn, blockBytesIn}
+use Rattle.whole.specs.Answer.{Row, row, isValid, rowAt, rowsFrom, rowsOf, numberOf, nullsIn, blockBytesIn}
 
 -- the row that a cell is listed as
 abbrev pub rowFor : Cell → Row
@@ -70,19 +71,26 @@ long-sum (x ∷ xs) = ap (λ (n : ℕ). pick (isShort (length (x .bytes))) 0 (le
 
 -- ---- the column
 
+bit-valid : (t : Bool) → isValid (bitWhen Accepted t) ≡ t
+bit-valid true = refl
+bit-valid false = refl
+
 module _ (l : Lent) (c : Column) where
-  from-list : (xs : List Cell) (r : ℕ) → ((k : ℕ) → k < length xs → row (validAt l c (r + k)) (valueAt l c (r + k)) ≡ rowFor (getD xs k no·value)) → rowsFrom l c r (length xs) ≡ map rowFor xs
+  from-list : (xs : List Cell) (r : ℕ) → ((k : ℕ) → k < length xs → rowAt l c (r + k) ≡ rowFor (getD xs k no·value)) → rowsFrom l c r (length xs) ≡ map rowFor xs
   unfolding rowsFrom
   from-list [] r h = refl
   from-list (x ∷ xs) r h =
-      let a : row (validAt l c r) (valueAt l c r) ≡ rowFor x = ap (λ (j : ℕ). row (validAt l c j) (valueAt l c j)) (sym (add-zero r)) ∙ h 0 (omega arith) in
+      let a : rowAt l c r ≡ rowFor x = ap (rowAt l c) (sym (add-zero r)) ∙ h 0 (omega arith) in
       let step : (k : ℕ) → suc r + k ≡ r + suc k = λ k. omega arith in
-      let t = from-list xs (suc r) (λ k q. ap (λ (j : ℕ). row (validAt l c j) (valueAt l c j)) (step k) ∙ h (suc k) (omega arith)) in
+      let t = from-list xs (suc r) (λ k q. ap (rowAt l c) (step k) ∙ h (suc k) (omega arith)) in
       λ i. a i ∷ t i
 
 module _ (xs : List Cell) {l : Lent} {c : Column} (s : Shows l c (map bytesIn xs) (map validIn xs)) where
   bit-at : (r : ℕ) → r < length xs → validAt l c r ≡ getD xs r no·value .valid
   bit-at r h = shows-bit s r (omega (arith, rows-shown xs s)) ∙ cell-bit xs r h
+
+  valid-at : (r : ℕ) → r < length xs → isValid (bitOf l c r) ≡ getD xs r no·value .valid
+  valid-at r h = ap isValid (bit-shown xs s r h) ∙ bit-valid (getD xs r no·value .valid)
 
   length-at : (r : ℕ) → r < length xs → lengthOf (rowView l c r) ≡ length (getD xs r no·value .bytes)
   length-at r h = shows-row s r (omega (arith, rows-shown xs s)) .len ∙ ap length (cell-bytes xs r)
@@ -90,7 +98,7 @@ module _ (xs : List Cell) {l : Lent} {c : Column} (s : Shows l c (map bytesIn xs
   pub rows-listed : rowsOf l c ≡ map rowFor xs
   rows-listed =
       ap (rowsFrom l c 0) (rows-shown xs s)
-      ∙ from-list l c xs 0 (λ k h. let z : 0 + k ≡ k = omega arith in rw z (λ i. row (bit-at k h i) (value-shown xs s k h i)))
+      ∙ from-list l c xs 0 (λ k h. let z : 0 + k ≡ k = omega arith in rw z (λ i. row (valid-at k h i) (value-shown xs s k h i)))
 
   pub nulls-listed : numberOf (nullRun l c 0 (c .rows)) ≡ nullsIn (map rowFor xs)
   unfolding nullRun whyRun refuse countNulls validAt

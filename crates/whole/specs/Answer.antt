@@ -8,10 +8,11 @@ use Rattle.basis.specs.Pick.{pick}
 use Rattle.views.specs.View.{isShort}
 use Rattle.column.specs.declared.Column.{Column}
 use Rattle.column.specs.Lent.{Lent}
-use Rattle.column.specs.Meaning.{validAt}
 use Rattle.reading.specs.declared.Number.{Number}
 use Rattle.reading.specs.declared.Number.the-variants.{Is, Refused}
-use Rattle.reading.specs.Reading.{valueAt, nullRun, totalBytesLen, totalBufferBytesUsed}
+use Rattle.reading.specs.declared.Bit.{Bit}
+use Rattle.reading.specs.declared.Bit.the-variants as bit
+use Rattle.reading.specs.Reading.{bitOf, valueAt, nullRun, totalBytesLen, totalBufferBytesUsed}
 use Rattle.listing.specs.Text.{rowLine, gapLine, opening, closing, refusedLine}
 use Rattle.shelf.specs.declared.Line.{Line}
 use Rattle.shelf.specs.declared.Line.the-variants.{Code, Null, Bad}
@@ -78,9 +79,18 @@ answer s = pick (ltb 16384 (length s)) (refusedLine 0) (answerLines (lines s))
 
 -- ---- the same of a column
 
+-- a row whose bit is refused has no value
+abbrev pub isValid : Bit → Bool
+isValid bit.Valid = true
+isValid bit.Null = false
+isValid (bit.Refused r) = false
+
+abbrev pub rowAt : Lent → Column → ℕ → Row
+rowAt l c r = row (isValid (bitOf l c r)) (valueAt l c r)
+
 unfoldable pub rowsFrom : Lent → Column → ℕ → ℕ → List Row
 rowsFrom l c r zero = []
-rowsFrom l c r (suc n) = row (validAt l c r) (valueAt l c r) ∷ rowsFrom l c (suc r) n
+rowsFrom l c r (suc n) = rowAt l c r ∷ rowsFrom l c (suc r) n
 
 abbrev pub rowsOf : Lent → Column → List Row
 rowsOf l c = rowsFrom l c 0 (c .rows)
@@ -89,7 +99,8 @@ abbrev pub numberOf : Number → ℕ
 numberOf (Is n) = n
 numberOf (Refused r) = 0
 
+abbrev pub closingOf : Lent → Column → List ℕ
+closingOf l c = closing (c .rows) (numberOf (nullRun l c 0 (c .rows))) (numberOf (totalBytesLen l c)) (numberOf (totalBufferBytesUsed l c)) (c .blocks)
+
 unfoldable pub listedColumn : Lent → Column → List ℕ
-listedColumn l c =
-    opening ++ (body (rowsOf l c)
-    ++ closing (c .rows) (numberOf (nullRun l c 0 (c .rows))) (numberOf (totalBytesLen l c)) (numberOf (totalBufferBytesUsed l c)) (c .blocks))
+listedColumn l c = opening ++ (body (rowsOf l c) ++ closingOf l c)

@@ -1,57 +1,30 @@
 -- The pieces that the program writes, one after the other, are the whole. Assumes nothing.
 use mathlib.Core.Path.{_≡_, refl, sym, ap, _∙_}
-use mathlib.Core.Bool.{Bool, true, false}
+use mathlib.Core.Bool.{Bool, true, false, not}
 use mathlib.Core.List.{List, [], _∷_, _++_, append-assoc, map}
 use Prim.Native.Nat.{ℕ, zero, suc, _+_, _-_, _≤_, _<_}
 use native.Mathlib.Nat.{zero-add, add-zero}
 use native.Mathlib.Omega.{arith}
-use borrow.Author.Tests.{leb-true, leb-false, lt-ltb, le-ltb, ne-eqb}
-use lib.Dec.{leb}
-use lib.ListN.{length, take, drop, getD}
+use borrow.Author.Tests.{leb-true, leb-false, le-leb, ltb-true, ltb-false, lt-ltb, le-ltb, ne-eqb}
+use lib.Dec.{leb, ltb}
+use lib.ListN.{length, take, drop, getD, List·getD-eq-default}
 use lib.Seq.{drop-cons, take-length}
 use Rattle.basis.specs.Pick.{pick}
-use Rattle.listing.specs.Text.{bytesText, textFrom, rowOpen, rowClose, rowLine, gapLine, opening, closing, refusedLine}
-use Rattle.listing.specs.Laws.{text-end, text-start}
+use Rattle.bounds.specs.Refusals.{refuse, ifAccepted}
+use Rattle.bounds.specs.declared.Refusal.the-variants as refusal
+use Rattle.bounds.specs.declared.Refusal.the-variants.{Fit}
+use Rattle.bounds.specs.declared.Why.the-variants.{Refused}
+use Rattle.listing.specs.Text.{rowLine, gapLine, opening, closing, refusedLine}
 use Rattle.shelf.specs.declared.Item.{Item}
 use Rattle.shelf.specs.declared.Item.the-variants as item
-use Rattle.shelf.specs.Items.{itemCount, itemAt, partEnd}
+use Rattle.shelf.specs.Items.{itemCount, itemAt}
 use Rattle.shelf.specs.ItemLaws.{count-few, count-many, item-few, item-first, item-gap, item-last}
-use Rattle.whole.specs.Answer.{Row, row, rowOf, rowLines, body, nullsIn, bytesIn, blockBytesIn, blocksIn, listed, answerLines, answer, rowsFrom, rowsOf, numberOf, listedColumn}
+use Rattle.whole.specs.Answer.{Row, row, rowOf, rowLines, body, nullsIn, bytesIn, blockBytesIn, blocksIn, listed, answerLines, answer, isValid, rowAt, rowsFrom, rowsOf, numberOf, closingOf, listedColumn}
 use Rattle.shelf.specs.Lines.{lines, firstBad}
 use Rattle.column.specs.declared.Column.{Column}
-use Rattle.column.specs.Lent.{Lent}
-use Rattle.column.specs.Meaning.{validAt}
-use Rattle.reading.specs.Reading.{valueAt, nullRun, totalBytesLen, totalBufferBytesUsed}
-
--- ---- a value, part by part
-
--- what `show_value` writes between the brackets from byte `at` on: each part, followed by what is left, is what was left
-pub data Parts (x : List ℕ) : ℕ → List ℕ → Type 0 where
-  done : {at : ℕ} → length x ≤ at → Parts x at []
-  next : {at : ℕ} (t : List ℕ) (u : List ℕ) → at < length x → t ++ textFrom x (partEnd (length x) at) ≡ textFrom x at → Parts x (partEnd (length x) at) u → Parts x at (t ++ u)
-
-end-low : (n at : ℕ) → at < n → at < partEnd n at
-unfolding partEnd
-end-low n at h = omega arith
-
-late : (x : List ℕ) (at : ℕ) (u : List ℕ) → 0 < at → Parts x at u → u ≡ textFrom x at
-late x at u h (done l) = sym (text-end x at h l)
-late x at u h (next t v l e p) =
-    let low = end-low (length x) at l in
-    ap (λ (z : List ℕ). t ++ z) (late x (partEnd (length x) at) v (omega arith) p) ∙ e
-
-first : (x u : List ℕ) → Parts x 0 u → u ≡ bytesText x
-unfolding bytesText
-first [] u (done l) = refl
-first (b ∷ x) u (done l) = absurd (omega arith)
-first x u (next t v l e p) =
-    let low = end-low (length x) 0 l in
-    ap (λ (z : List ℕ). t ++ z) (late x (partEnd (length x) 0) v (omega arith) p) ∙ (e ∙ text-start x)
-
--- a row's line: the opening bracket, the parts, the closing bracket
-pub parts-whole : (x u : List ℕ) → Parts x 0 u → rowOpen ++ (u ++ rowClose) ≡ rowLine true x
-unfolding rowLine
-parts-whole x u p = ap (λ (z : List ℕ). rowOpen ++ (z ++ rowClose)) (first x u p)
+use Rattle.column.specs.Lent.{Lent, fits}
+use Rattle.column.specs.Meaning.{shownAt, validAt}
+use Rattle.reading.specs.Reading.{whyRun, whyRow, whyValue, bitWhen, bitOf, valueAt, nullRun, totalBytesLen, totalBufferBytesUsed}
 
 -- ---- the rows and the gap, item by item
 
@@ -133,27 +106,43 @@ module _ (l : Lent) (c : Column) where
   rows-length r zero = refl
   rows-length r (suc n) = ap suc (rows-length (suc r) n)
 
-  rows-at : (r n k : ℕ) → k < n → getD (rowsFrom l c r n) k nothing ≡ row (validAt l c (r + k)) (valueAt l c (r + k))
+  pub length-rows : length (rowsOf l c) ≡ c .rows
+  length-rows = rows-length 0 (c .rows)
+
+  rows-at : (r n k : ℕ) → k < n → getD (rowsFrom l c r n) k nothing ≡ rowAt l c (r + k)
   unfolding rowsFrom
   rows-at r zero k h = absurd (omega arith)
   rows-at r (suc n) zero h = rw (add-zero r)
-  rows-at r (suc n) (suc k) h = let e : suc r + k ≡ r + suc k = omega arith in rows-at (suc r) n k (omega arith) ∙ ap (λ (j : ℕ). row (validAt l c j) (valueAt l c j)) e
+  rows-at r (suc n) (suc k) h = let e : suc r + k ≡ r + suc k = omega arith in rows-at (suc r) n k (omega arith) ∙ ap (rowAt l c) e
 
-  -- the line of item k of a column, as `show_row` writes it
-  pub row-line : (r : ℕ) → r < c .rows → itemLine (rowsOf l c) (item.Row r) ≡ rowLine (validAt l c r) (valueAt l c r)
-  row-line r h =
-      let e : 0 + r ≡ r = omega arith in
-      ap (λ (z : Row). rowLine (z .valid) (z .value)) (rows-at 0 (c .rows) r h ∙ ap (λ (j : ℕ). row (validAt l c j) (valueAt l c j)) e)
+  -- past the rows the bit and the value are refused
+  no-row : (r : ℕ) → c .rows ≤ r → nothing ≡ rowAt l c r
+  unfolding bitOf whyRow whyRun valueAt whyValue refuse
+  no-row r h = rw (lt-ltb (c .rows) (r + 1) (omega arith), le-leb (c .rows) r h) (go (fits l c))
+    where
+      go : (t : Bool) → nothing ≡ row (isValid (bitWhen (refuse Fit (not t) (Refused refusal.Row)) (validAt l c r))) (ifAccepted (refuse Fit (not t) (Refused refusal.Row)) (shownAt l c r) [])
+      go true = refl
+      go false = refl
+
+  -- row r of a column, whether it has one or not
+  pub row-at : (r : ℕ) → getD (rowsOf l c) r nothing ≡ rowAt l c r
+  row-at r = go (ltb r (c .rows)) refl
+    where
+      go : (t : Bool) → ltb r (c .rows) ≡ t → getD (rowsOf l c) r nothing ≡ rowAt l c r
+      go true e = rows-at 0 (c .rows) r (ltb-true r (c .rows) e) ∙ ap (rowAt l c) (zero-add r)
+      go false e =
+          let h : c .rows ≤ r = ltb-false r (c .rows) e in
+          let g : length (rowsOf l c) ≤ r = omega (arith, length-rows) in
+          List·getD-eq-default (rowsOf l c) nothing g ∙ no-row r h
 
   -- the opening, the items in order, and the closing lines are the listing
-  pub column-whole : opening ++ (itemLines (rowsOf l c) 0 (itemCount (c .rows))
-      ++ closing (c .rows) (numberOf (nullRun l c 0 (c .rows))) (numberOf (totalBytesLen l c)) (numberOf (totalBufferBytesUsed l c)) (c .blocks)) ≡ listedColumn l c
+  pub column-whole : opening ++ (itemLines (rowsOf l c) 0 (itemCount (c .rows)) ++ closingOf l c) ≡ listedColumn l c
   unfolding listedColumn
   column-whole =
-      let e : itemLines (rowsOf l c) 0 (itemCount (c .rows)) ≡ body (rowsOf l c) = ap (λ (n : ℕ). itemLines (rowsOf l c) 0 (itemCount n)) (sym (rows-length 0 (c .rows))) ∙ items-whole (rowsOf l c) in
-      ap (λ (z : List ℕ). opening ++ (z ++ closing (c .rows) (numberOf (nullRun l c 0 (c .rows))) (numberOf (totalBytesLen l c)) (numberOf (totalBufferBytesUsed l c)) (c .blocks))) e
+      let e : itemLines (rowsOf l c) 0 (itemCount (c .rows)) ≡ body (rowsOf l c) = ap (λ (n : ℕ). itemLines (rowsOf l c) 0 (itemCount n)) (sym length-rows) ∙ items-whole (rowsOf l c) in
+      ap (λ (z : List ℕ). opening ++ (z ++ closingOf l c)) e
 
--- A column that shows rows: what the builder's promise has to give. Not proved here.
+-- A column that shows rows, and of which the calls tell their numbers. `answering` has it of the column of every accepted input.
 pub record Shows (l : Lent) (c : Column) (rs : List Row) : Type 0 where
   pub rows : rowsOf l c ≡ rs
   pub nulls : numberOf (nullRun l c 0 (c .rows)) ≡ nullsIn rs
@@ -165,7 +154,7 @@ pub record Shows (l : Lent) (c : Column) (rs : List Row) : Type 0 where
 pub answered : (l : Lent) (c : Column) (s : List ℕ) → length s ≤ 16384 → firstBad 0 (lines s) ≡ 0 → Shows l c (map rowOf (lines s)) → listedColumn l c ≡ answer s
 unfolding answer answerLines listed listedColumn
 answered l c s h g w =
-    let n : c .rows ≡ length (map rowOf (lines s)) = sym (rows-length l c 0 (c .rows)) ∙ ap length (w .rows) in
+    let n : c .rows ≡ length (map rowOf (lines s)) = sym (length-rows l c) ∙ ap length (w .rows) in
     rw (le-ltb 16384 (length s) h, g) (λ i. opening ++ (body (w .rows i) ++ closing (n i) (w .nulls i) (w .bytes i) (w .long i) (w .blocks i)))
 
 -- the two refusals

@@ -29,7 +29,7 @@ pub struct Placed {
 }
 
 // 6 and 7 for n blocks and m bytes more.
-fn why_room(s: State, blocks: usize, bytes: usize, n: usize, m: usize) -> Why
+pub fn why_room(s: State, blocks: usize, bytes: usize, n: usize, m: usize) -> Why
     requires { ⌜ (allBlocks s + n < 2 ^ 64) × (used s + m < 2 ^ 64) ⌝ }
     ensures { λ r. ⌜ r ≡ whyRoom s blocks bytes n m ⌝ }
 {
@@ -45,7 +45,7 @@ fn why_room(s: State, blocks: usize, bytes: usize, n: usize, m: usize) -> Why
 }
 
 // The state with the open block, if any, completed.
-fn close(s: State) -> State
+pub fn close(s: State) -> State
     requires { ⌜ (allBlocks s < 2 ^ 64) × (used s < 2 ^ 64) ⌝ }
     ensures { λ r. ⌜ r ≡ closed s ⌝ }
 {
@@ -84,7 +84,7 @@ fn put_block(
 }
 
 // The state with a block of n bytes more, where none is open.
-fn block_more(s: State, n: usize) -> State
+pub fn block_more(s: State, n: usize) -> State
     requires { ⌜ (s .blocks < 2 ^ 32) × (s .base + n < 2 ^ 64) ⌝ }
     ensures { λ r. ⌜ r ≡ blockMore n s ⌝ }
 {

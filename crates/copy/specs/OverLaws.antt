@@ -7,9 +7,6 @@ use lib.ListN.{length, take, drop, length-append, length-take, length-drop}
 use lib.Seq.{take-at, drop-at, take-add, length-take-le, take-length, drop-length, drop-drop, paste}
 use Rattle.copy.specs.Over.{over, copied}
 
-pub length-over : (s d : List ℕ) → length s ≤ length d → length (over s d) ≡ length d
-length-over s d h = simp (length-append, length-drop) (omega arith)
-
 -- the tail of t from o on is lent to a copy of v, and comes back
 pub tail-back : (o : ℕ) (t y v : List ℕ) → y ≡ over v (take (length t - o) (drop o t)) → take o t ++ (y ++ drop (length t - o) (drop o t)) ≡ take o t ++ (v ++ drop (o + length v) t)
 tail-back o t y v e =

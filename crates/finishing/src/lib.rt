@@ -83,7 +83,7 @@ fn is_off(m: Merging) -> bool
 }
 
 // A state without rows and blocks.
-fn empty_state(kind: Kind, growth: Growth, merging: Merging) -> State
+pub fn empty_state(kind: Kind, growth: Growth, merging: Merging) -> State
     ensures { λ r. ⌜ r ≡ emptyState kind growth merging ⌝ }
 {
     State {
@@ -111,7 +111,7 @@ fn zero_all(places: &mut [u32])
 }
 
 // The merge table emptied, where it is used.
-fn clear(m: Merging, places: &mut [u32])
+pub fn clear(m: Merging, places: &mut [u32])
     ensures { λ _. ⌜ now (places .exit) ≡ cleared m (now (places .entry)) ⌝ }
 {
     if is_off(m) {
@@ -147,7 +147,7 @@ pub fn start(t: Settings, places: &mut [u32]) -> Answer
 }
 
 // The column of all rows so far.
-fn column_of(s: State) -> Column
+pub fn column_of(s: State) -> Column
     requires { ⌜ allBlocks s < 18446744073709551616 ⌝ }
     ensures { λ r. ⌜ r ≡ record { first = 0; rows = s .rows; blocks = allBlocks s; kind = s .kind; mapped = s .nulled } ⌝ }
 {
@@ -173,7 +173,7 @@ fn no_column(kind: Kind) -> Column
     }
 }
 
-fn refused(s: State) -> Finished
+pub fn refused(s: State) -> Finished
     ensures { λ r. ⌜ (r .answer ≡ answer (Why.Refused Refusal.Fit) s) × (r .column ≡ record { first = 0; rows = 0; blocks = 0; kind = s .kind; mapped = false }) ⌝ }
 {
     let kind = s.kind;

@@ -50,7 +50,7 @@ size-bounds k = by (leb k 8) refl
         let h : k ≡ 8 + (k - 8) = omega (arith, leb-false k 8 e) in
         rw h (omega (arith, size-stays (k - 8)), omega (arith, size-stays (k - 8)))
 
--- no block has the size that doubling starts from
+-- no block has the size that doubling starts from (an end theorem: nothing cites it)
 pub next-above : (k : ℕ) → startSize < nextSize (sizeAfter k)
 unfolding startSize largestSize
 next-above k = by (ltb (sizeAfter k) largestSize) refl
@@ -143,6 +143,7 @@ pub fixed-bounds : (n : ℕ) → fitsGrowth (Fixed n) ≡ true → (1 ≤ n) × 
 unfolding fitsGrowth
 fixed-bounds n e = let p = and-both (leb 1 n) (leb n byteLimit) e in (leb-true 1 n (p .0), leb-true n byteLimit (p .1))
 
+-- a block's size is 1 to the byte limit (an end theorem: nothing cites it)
 pub size-of-bounds : (g : Growth) → fitsGrowth g ≡ true → (1 ≤ sizeOf g) × (sizeOf g ≤ byteLimit)
 unfolding fitsGrowth startSize largestSize sizeAfter
 size-of-bounds (Fixed n) e = fixed-bounds n e
@@ -152,7 +153,7 @@ size-of-bounds (Doubling s) e =
     let h : nextSize s ≡ sizeAfter (suc (r .steps)) = ap nextSize (r .is) in
     (omega arith, omega (arith, byte-limit-is))
 
--- the start, the first size and the eighth
+-- the start, the first size and the eighth (end theorems where nothing cites them: the paper's own figures)
 pub start-fits : fitsGrowth (Doubling startSize) ≡ true
 unfolding fitsGrowth sizeAfter
 start-fits = fits-reached 0

@@ -1,4 +1,6 @@
--- A hash of at least eight bytes: two lanes of words, an overlapping last word. Assumes nothing.
+-- A hash of at least eight bytes: two lanes of words, an overlapping last word. It mirrors its code, and there is nothing in it that a
+-- reader must believe: what is needed of it is that it is a function of the bytes, so that equal values are looked for at the same place of
+-- the merge table. Whether two values are equal is asked of their bytes, never of their hashes. Assumes nothing.
 use mathlib.Core.List.{List}
 use Prim.Native.Nat.{ℕ, zero, suc, _+_, _-_, _*_, _/_, _%_, _^_}
 use lib.Bits.{bitOr, bitXor}

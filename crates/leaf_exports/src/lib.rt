@@ -1,4 +1,4 @@
-// The leaves in batches, for C and Rust: what is measured is the work, not the call.
+// Instruments, not calls of the library: the leaves in batches, for bench/ to time. What is measured is the work, not the call.
 ghost use mathlib.Core.Path.{_≡_};
 ghost use Prim.Native.Nat.{_+_, _/_};
 ghost use Rattle.basis.specs.Pick.{pick};

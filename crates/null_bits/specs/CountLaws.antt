@@ -28,10 +28,6 @@ pub valid-map : (map : List ℕ) (row : ℕ) → validAt map true row ≡ isVali
 unfolding validAt
 valid-map map row = refl
 
-pub valid-none : (map : List ℕ) (row : ℕ) → validAt map false row ≡ true
-unfolding validAt
-valid-none map row = refl
-
 -- a run of rows is counted in two parts
 pub count-add : (map : List ℕ) (first a b : ℕ) → countValid map first (a + b) ≡ countValid map first a + countValid map (first + a) b
 unfolding countValid
@@ -63,14 +59,3 @@ nulls-valid map first (suc k) = by (isValid map (first + k)) (bit-is map (first 
         → countNulls map true first k + nullOf v + (countValid map first k + bitAt map (first + k)) ≡ suc k
     by true e more = omega arith
     by false e more = omega arith
-
--- a run's nulls in two parts
-pub nulls-add : (map : List ℕ) (mapped : Bool) (first a b : ℕ) → countNulls map mapped first (a + b) ≡ countNulls map mapped first a + countNulls map mapped (first + a) b
-unfolding countNulls
-nulls-add map mapped first a zero = simp add-zero
-nulls-add map mapped first a (suc b) =
-    rw (add-suc, nulls-add map mapped first a b, add-assoc (countNulls map mapped first a) (countNulls map mapped (first + a) b), add-assoc first a b)
-
-pub nulls-le : (map : List ℕ) (mapped : Bool) (first k : ℕ) → countNulls map mapped first k ≤ k
-nulls-le map true first k = omega (arith, nulls-valid map first k)
-nulls-le map false first k = omega (arith, nulls-none map first k)

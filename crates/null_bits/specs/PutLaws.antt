@@ -3,16 +3,16 @@
 use mathlib.Core.Path.{_≡_, refl, sym, ap, _∙_}
 use mathlib.Core.Bool.{Bool, true, false}
 use mathlib.Core.List.{List}
-use mathlib.Core.Logic.{by-cases, _≢_}
-use Prim.Native.Nat.{ℕ, zero, suc, _+_, _-_, _*_, _/_, _%_, _^_, _≤_, _<_}
-use native.Mathlib.Nat.{mod-lt, add-comm, zero-add, div-eq-of-lt, lt-of-lt-of-le}
+use mathlib.Core.Logic.{by-cases}
+use Prim.Native.Nat.{ℕ, suc, _+_, _-_, _*_, _/_, _%_, _^_, _≤_, _<_}
+use native.Mathlib.Nat.{mod-lt, add-comm, div-eq-of-lt, lt-of-lt-of-le}
 use native.Mathlib.Decide.{ℕ-discrete}
 use native.Mathlib.Omega.{arith}
 use lib.Dec.{eqb}
 use lib.Pow.{pow-pos, pow-mono, mod-mod-pow, field, high, low}
 use lib.ListN.{length, getD, length-set}
 use lib.Seq.{getD-set-same, getD-set-other}
-use Rattle.null_bits.specs.Bits.{bitAt, isValid, countValid, putBit, putIn, bitOf}
+use Rattle.null_bits.specs.Bits.{bitAt, isValid, putBit, putIn, bitOf}
 
 bit-one : (v : Bool) → bitOf v % 2 ≡ bitOf v
 bit-one true = refl
@@ -58,7 +58,7 @@ bit-put-before map row j v h l =
     (ap (λ (n : ℕ). putIn old n v / 2 ^ (j % 8) % 2) p ∙ put-in-below old (j % 8) (row % 8 - (1 + j % 8)) v))
     (λ n. rw (getD-set-other map (row / 8) (j / 8) (putIn old (row % 8) v) 0 n))
 
--- a later row of the byte is 0
+-- a later row of the byte is 0 (an end theorem: nothing cites it)
 pub bit-put-after : (map : List ℕ) (row j : ℕ) (v : Bool) → row / 8 < length map → row < j → j / 8 ≡ row / 8 → bitAt (putBit map row v) j ≡ 0
 unfolding bitAt putBit
 bit-put-after map row j v h l e =
@@ -66,11 +66,6 @@ bit-put-after map row j v h l e =
     let top : x < 2 ^ suc (row % 8) = put-in-lt (getD map (row / 8) 0) (row % 8) v in
     let more : 2 ^ suc (row % 8) ≤ 2 ^ (j % 8) = pow-mono (omega arith) in
     rw (e, getD-set-same map (row / 8) x 0 h) (rw (div-eq-of-lt (lt-of-lt-of-le top more)))
-
--- a row in another byte reads as before
-pub bit-put-other : (map : List ℕ) (row j : ℕ) (v : Bool) → j / 8 ≢ row / 8 → bitAt (putBit map row v) j ≡ bitAt map j
-unfolding bitAt putBit
-bit-put-other map row j v n = rw (getD-set-other map (row / 8) (j / 8) (putIn (getD map (row / 8) 0) (row % 8) v) 0 n)
 
 -- the same of valid and null
 pub valid-put-same : (map : List ℕ) (row : ℕ) (v : Bool) → row / 8 < length map → isValid (putBit map row v) row ≡ v
@@ -84,14 +79,3 @@ valid-put-same map row v h = rw (bit-put-same map row v h) (by v)
 pub valid-put-before : (map : List ℕ) (row j : ℕ) (v : Bool) → row / 8 < length map → j < row → isValid (putBit map row v) j ≡ isValid map j
 unfolding isValid
 valid-put-before map row j v h l = rw (bit-put-before map row j v h l)
-
--- so a run that ends at the row or before it counts as before
-pub count-put : (map : List ℕ) (row first n : ℕ) (v : Bool) → row / 8 < length map → first + n ≤ row → countValid (putBit map row v) first n ≡ countValid map first n
-unfolding countValid
-count-put map row first zero v h l = refl
-count-put map row first (suc n) v h l = rw (count-put map row first n v h (omega arith), bit-put-before map row (first + n) v h (omega arith))
-
--- and the run that the row ends counts the row too
-pub count-append : (map : List ℕ) (row : ℕ) (v : Bool) → row / 8 < length map → countValid (putBit map row v) 0 (suc row) ≡ countValid map 0 row + bitOf v
-unfolding countValid
-count-append map row v h = rw (count-put map row 0 row v h (omega arith), zero-add row, bit-put-same map row v h)

@@ -9,10 +9,10 @@ use native.Mathlib.Nat.{add-zero, add-suc, add-assoc, zero-add}
 use native.Mathlib.Decide.{ℕ-discrete}
 use native.Mathlib.Omega.{arith}
 use lib.ListN.{length}
-use Rattle.null_bits.specs.Bits.{isValid, validAt, nullOf, countValid, countNulls, putBit}
+use Rattle.null_bits.specs.Bits.{isValid, validAt, nullOf, countNulls, putBit}
 use Rattle.null_bits.specs.Runs.{putBits, putRun, copyBits, copyColumn}
-use Rattle.null_bits.specs.CountLaws.{bit-is, valid-map}
-use Rattle.null_bits.specs.PutLaws.{length-put, valid-put-same, valid-put-before, count-put, bit-put-same}
+use Rattle.null_bits.specs.CountLaws.{valid-map}
+use Rattle.null_bits.specs.PutLaws.{length-put, valid-put-same, valid-put-before}
 
 pub length-bits : (map : List ℕ) (first : ℕ) (bits : ℕ → Bool) (n : ℕ) → length (putBits map first bits n) ≡ length map
 unfolding putBits
@@ -32,6 +32,7 @@ bits-same map first f g zero h = refl
 bits-same map first f g (suc n) h = rw (bits-same map first f g n (λ k l. h k (omega arith)), h n (omega arith))
 
 module _ (map : List ℕ) (first : ℕ) (bits : ℕ → Bool) where
+  -- a row before the run reads as before (an end theorem: nothing cites it)
   pub bits-before : (n j : ℕ) → first + n ≤ 8 * length map → j < first → isValid (putBits map first bits n) j ≡ isValid map j
   unfolding putBits
   bits-before zero j h l = refl
@@ -59,15 +60,6 @@ pub column-none : (map : List ℕ) (first : ℕ) (src : List ℕ) (mapped : Bool
 unfolding validAt
 column-none map first src mapped from n e = bits-same map first (λ k. true) (λ k. validAt src mapped (from + k)) n (λ k l. rw e)
 
--- the rows that were copied count as their source
-pub count-copied : (map : List ℕ) (first : ℕ) (src : List ℕ) (from n : ℕ) → first + n ≤ 8 * length map → countValid (copyBits map first src from n) first n ≡ countValid src from n
-unfolding countValid putBits
-count-copied map first src from zero h = refl
-count-copied map first src from (suc n) h =
-    let was : List ℕ = copyBits map first src from n in
-    let room : (first + n) / 8 < length was = rw (length-bits map first (λ k. isValid src (from + k)) n) (omega arith) in
-    rw (count-put was (first + n) first n (isValid src (from + n)) room (omega arith), bit-put-same was (first + n) (isValid src (from + n)) room, ← bit-is src (from + n), count-copied map first src from n (omega arith))
-
 -- a column's rows that were copied read, and count their nulls, as their source
 pub column-read : (map : List ℕ) (first : ℕ) (src : List ℕ) (mapped : Bool) (from n k : ℕ) → first + n ≤ 8 * length map → k < n
     → isValid (copyColumn map first src mapped from n) (first + k) ≡ validAt src mapped (from + k)
@@ -81,11 +73,12 @@ nulls-bits map first src mapped from (suc n) same =
     let last : validAt map true (first + n) ≡ validAt src mapped (from + n) = valid-map map (first + n) ∙ same n (omega arith) in
     rw (nulls-bits map first src mapped from n (λ k l. same k (omega arith)), last)
 
+-- an end theorem: nothing cites it
 pub nulls-copied : (map : List ℕ) (first : ℕ) (src : List ℕ) (mapped : Bool) (from n : ℕ) → first + n ≤ 8 * length map
     → countNulls (copyColumn map first src mapped from n) true first n ≡ countNulls src mapped from n
 nulls-copied map first src mapped from n h = nulls-bits (copyColumn map first src mapped from n) first src mapped from n (λ k l. column-read map first src mapped from n k h l)
 
--- a row appended counts as null or not, and the rows before it as before
+-- a row appended counts as null or not, and the rows before it as before (an end theorem: nothing cites it)
 pub nulls-append : (map : List ℕ) (row : ℕ) (v : Bool) → row / 8 < length map → countNulls (putBit map row v) true 0 (suc row) ≡ countNulls map true 0 row + nullOf v
 unfolding countNulls
 nulls-append map row v h =

@@ -54,7 +54,7 @@ unfolding cmp
 cmp-same [] = refl
 cmp-same (a ∷ x) = rw (compare-same a, cmp-same x)
 
--- only the same list is equal
+-- only the same list is equal, and turned round the order turns (end theorems: nothing cites them)
 pub cmp-equal : (x y : List ℕ) → cmp x y ≡ Ordering·eq → x ≡ y
 unfolding cmp
 cmp-equal [] [] e = refl

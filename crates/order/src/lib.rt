@@ -60,7 +60,7 @@ fn by_words(a: &[u8], b: &[u8], n: usize, at: usize) -> Order
     ensures { λ r. ⌜ ordering r ≡ cmp (now (a .entry)) (now (b .entry)) ⌝ }
 {
     let mut i = at;
-    while 8 <= n - i {
+    while 8 < n - i {
         let x = words::be64(a, i);
         let y = words::be64(b, i);
         if x != y {
@@ -109,7 +109,7 @@ fn same_words(a: &[u8], b: &[u8], n: usize, at: usize) -> bool
     ensures { λ r. ⌜ r ≡ same (now (a .entry)) (now (b .entry)) ⌝ }
 {
     let mut i = at;
-    while 8 <= n - i {
+    while 8 < n - i {
         if words::le64(a, i) != words::le64(b, i) {
             return false;
         }

@@ -1,6 +1,5 @@
 -- Functions that meet their contracts answer columns that are made and filed, so the third promise holds of what they answer. Assumes nothing.
 use mathlib.Core.Path.{_≡_, refl, sym, ap, _∙_, subst}
-use mathlib.Core.Bool.{true}
 use mathlib.Core.List.{List, map}
 use Prim.Native.Nat.{ℕ}
 use Rattle.bounds.specs.Refusals.{isAccepted, ifAccepted}
@@ -24,8 +23,8 @@ use Rattle.offsets.specs.declared.Outcome as offsets
 use Rattle.offsets.specs.Offsets.{Source, whyOffsets, fromOffsets, offsetColumn, noColumn as noOffsets, offsetsOf}
 use Rattle.offsets.proofs.Exit.{converted-lent}
 use Rattle.compaction.specs.Bounded.{Bounded}
-use Rattle.promise.specs.Calls.{Cell, Ran, finish, Item, Entry, call, appended}
-use Rattle.promise.specs.Coded.{Slices, held·in, Call·met, Coded}
+use Rattle.promise.specs.Calls.{Ran, finish, Item, call}
+use Rattle.promise.specs.Coded.{Slices, held·in}
 use Rattle.promise.specs.Made.{Made, built, again}
 use Rattle.promise.specs.Kept.{Filed}
 use Rattle.promise.specs.Kept as files

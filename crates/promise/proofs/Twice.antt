@@ -1,27 +1,25 @@
 -- Compacting a compacted column at the same maximum makes the same views, records and bytes. Assumes nothing.
 use mathlib.Core.Path.{_≡_, refl, sym, ap, _∙_}
 use mathlib.Core.Bool.{Bool, true, false}
-use mathlib.Core.List.{List, [], _∷_, _++_}
+use mathlib.Core.List.{List, []}
 use Prim.Native.Nat.{ℕ, zero, suc, _<_}
 use native.Mathlib.Omega.{arith}
 use lib.ListN.{length, getD, take, drop}
 use lib.Seq.{take-at}
-use Rattle.basis.specs.Pick.{pick}
 use Rattle.bounds.specs.declared.Why.the-variants.{Accepted}
 use Rattle.views.specs.View.{lengthOf, isShort}
-use Rattle.column.specs.declared.Block.{Block}
 use Rattle.column.specs.declared.Column.{Column}
 use Rattle.column.specs.Lent.{Lent}
 use Rattle.column.specs.Meaning.{rowView, blocksOf, shownAt}
-use Rattle.column.specs.Laid.{rowsOf, viewsOf, flat}
+use Rattle.column.specs.Laid.{viewsOf}
 use Rattle.showing.specs.Stores.{getD-rows, rows-same}
-use Rattle.showing.specs.Shows.{Shows, shows-row}
+use Rattle.showing.specs.Shows.{shows-row}
 use Rattle.laying.specs.WrittenLaws.{length-records, records}
-use Rattle.compaction.specs.Cut.{isNone, cutLens, cutAll, roomFor}
-use Rattle.compaction.specs.Compact.{longOf, longLens, valueAt, viewBy, newView, newLens, placedBy, whyCompact, compacted, compactColumn}
+use Rattle.compaction.specs.Cut.{cutLens}
+use Rattle.compaction.specs.Compact.{longOf, valueAt, newView, newLens, whyCompact, compacted, compactColumn}
 use Rattle.compaction.specs.LaidLaws.{view-short, view-long}
-use Rattle.compaction.proofs.Kept.{Fill, filled, lay, roomOf, fills, blocksOut}
-use Rattle.compaction.proofs.Compacted.{Room, room, newBlocks, old-row, views-back, blocks-back, compacted-alike, compacted-shows}
+use Rattle.compaction.proofs.Kept.{fills, blocksOut}
+use Rattle.compaction.proofs.Compacted.{room, old-row, views-back, blocks-back, compacted-alike, compacted-shows}
 use Rattle.promise.specs.Compactions.{Unchanged}
 
 -- what is made of the long rows depends on the rows' lengths and on what is said of each

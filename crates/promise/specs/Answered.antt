@@ -1,7 +1,6 @@
 -- The third promise over the calls' own contracts: any answers and any buffers at exit that meet what `start`, the value and null calls, `finish` and `compact`
 -- ensure. Nothing here names what a call does, but by its contract. Assumes nothing.
 use mathlib.Core.Path.{_≡_}
-use mathlib.Core.Bool.{Bool}
 use mathlib.Core.List.{List, map}
 use Prim.Native.Nat.{ℕ}
 use Rattle.bounds.specs.declared.Why.the-variants.{Accepted}
@@ -24,7 +23,7 @@ use Rattle.offsets.specs.Offsets.{Source, Converted, rowsIn, valueIn, validRow}
 use Rattle.promise.specs.Calls.{Cell, cell, finish, Item, Entry, call, appended}
 use Rattle.promise.specs.Coded.{Slices, held·in, Call·met, Coded}
 use Rattle.promise.specs.Made.{Made, Faithful, Ordered}
-use Rattle.promise.specs.Kept.{Filed, Shown}
+use Rattle.promise.specs.Kept.{Filed}
 
 -- the five slices of a column
 pub record Buffers : Type 0 where

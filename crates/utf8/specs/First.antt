@@ -1,7 +1,7 @@
 -- The place of the first ill-formed sequence, as the paper says it: `firstBad` is such a place, and there is no other. Assumes nothing.
 use mathlib.Core.Path.{_≡_, refl, sym, ap, _∙_}
 use mathlib.Core.Bool.{Bool, true, false, true≢false, _&&_}
-use mathlib.Core.List.{List, [], _∷_, _++_}
+use mathlib.Core.List.{List, [], _∷_}
 use Prim.Native.Nat.{ℕ, zero, suc, _+_, _≤_, _<_}
 use native.Mathlib.Omega.{arith}
 use borrow.Author.Tests.{eqb-true, eq-eqb, ltb-true, ltb-false}
@@ -10,7 +10,7 @@ use lib.ListN.{length, getD, take, drop, take-append-drop}
 use lib.Seq.{length-take-le}
 use Rattle.basis.specs.Pick.{pick}
 use Rattle.utf8.specs.Table.{Range, table, rowAt, fits, WellFormed, front, badAfter, walk, wellFormed, isBad, lowestFrom, firstBad}
-use Rattle.utf8.specs.Text.{past-and, fits-take, fits-length, row-front, front-row, judge-none, formed-skip, ended, formed-yes, yes-formed}
+use Rattle.utf8.specs.Text.{fits-take, fits-length, row-front, front-row, judge-none, formed-skip, ended, formed-yes, yes-formed}
 
 -- everything before place i is well formed, and the bytes from there on begin with those of no row of the table
 pub record BadAt (s : List ℕ) (i : ℕ) : Type 0 where

@@ -45,7 +45,7 @@ fn why_row(kind: Kind, x: &[u8], rows: usize, more: usize, room: usize) -> Why
 }
 
 // 2, 4, 10 and 5; no row is accepted whatever the value.
-fn why_first(s: State, rows: usize, blocks: usize, bytes: usize, x: &[u8], n: usize) -> Why
+pub fn why_first(s: State, rows: usize, blocks: usize, bytes: usize, x: &[u8], n: usize) -> Why
     requires { ⌜ blocks ≤ blockLimit ⌝ }
     ensures { λ r. ⌜ r ≡ refuse Refusal.Fit (not (fitsRooms s rows blocks bytes)) (pick (eqb n 0) Why.Accepted (whyRow (s .kind) (now (x .entry)) (s .rows) n rows Why.Accepted)) ⌝ }
 {
@@ -61,7 +61,7 @@ fn why_first(s: State, rows: usize, blocks: usize, bytes: usize, x: &[u8], n: us
 }
 
 // 2 and 5 for a null.
-fn why_null(s: State, rows: usize, blocks: usize, bytes: usize) -> Why
+pub fn why_null(s: State, rows: usize, blocks: usize, bytes: usize) -> Why
     requires { ⌜ blocks ≤ blockLimit ⌝ }
     ensures { λ r. ⌜ r ≡ refuse Refusal.Fit (not (fitsRooms s rows blocks bytes)) (refuse Refusal.RowRoom (leb rows (s .rows)) Why.Accepted) ⌝ }
 {
@@ -115,7 +115,7 @@ fn most(a: usize, b: usize) -> usize
 }
 
 // Whether an open block is there that takes n bytes more.
-fn fits_open(s: State, n: usize) -> bool
+pub fn fits_open(s: State, n: usize) -> bool
     requires { ⌜ s .fill + n < 2 ^ 64 ⌝ }
     ensures { λ r. ⌜ r ≡ fitsOpen s n ⌝ }
 {
@@ -163,7 +163,7 @@ fn make_room(s: State, starts: &mut [usize], lens: &mut [usize], n: usize) -> St
 }
 
 // The state with n bytes more in the open block and a valid row more.
-fn stored(s: State, n: usize) -> State
+pub fn stored(s: State, n: usize) -> State
     requires { ⌜ (s .rows < rowLimit) × (s .fill + n < 2 ^ 64) ⌝ }
     ensures { λ r. ⌜ r ≡ rowed true (laid n s) ⌝ }
 {
@@ -174,7 +174,7 @@ fn stored(s: State, n: usize) -> State
 }
 
 // The view of one row copied to another row.
-fn copy_view(views: &mut [u8], from: usize, to: usize)
+pub fn copy_view(views: &mut [u8], from: usize, to: usize)
     requires { ⌜ (16 * from + 16 ≤ length (now views)) × (16 * to + 16 ≤ length (now views)) ⌝ }
     ensures { λ _. ⌜ now (views .exit) ≡ paste (now (views .entry)) (16 * to) (viewAt (now (views .entry)) from) 16 ⌝ }
 {
@@ -198,7 +198,7 @@ fn no_block(s: State, blocks: usize, n: usize) -> bool
 }
 
 // 6, 7 and 12 for n bytes more. No state that fits needs a block whose number takes more than 32 bits.
-fn why_lay(s: State, blocks: usize, bytes: usize, n: usize) -> Why
+pub fn why_lay(s: State, blocks: usize, bytes: usize, n: usize) -> Why
     requires { ⌜ (allBlocks s < 2 ^ 32) × (used s + n < 2 ^ 64) ⌝ }
     ensures { λ r. ⌜ r ≡ whyLay s blocks bytes n ⌝ }
 {
@@ -255,7 +255,7 @@ fn shows_row(
 }
 
 // The place after p, in a circle of n.
-fn next_place(n: usize, p: usize) -> usize
+pub fn next_place(n: usize, p: usize) -> usize
     requires { ⌜ p < n ⌝ }
     ensures { λ r. ⌜ (r ≡ after n p) × (r < n) ⌝ }
 {
@@ -265,7 +265,7 @@ fn next_place(n: usize, p: usize) -> usize
     p + 1
 }
 
-fn does_merge(m: Merging, n: usize) -> bool
+pub fn does_merge(m: Merging, n: usize) -> bool
     ensures { λ r. ⌜ r ≡ merges m n ⌝ }
 {
     match m {
@@ -312,7 +312,7 @@ fn find(
     Found::Full
 }
 
-fn is_row(f: Found) -> bool
+pub fn is_row(f: Found) -> bool
     ensures { λ r. ⌜ r ≡ isRow f ⌝ }
 {
     match f {
@@ -322,7 +322,7 @@ fn is_row(f: Found) -> bool
     }
 }
 
-fn row_of(f: Found) -> usize
+pub fn row_of(f: Found) -> usize
     ensures { λ r. ⌜ r ≡ rowOf f ⌝ }
 {
     match f {
@@ -333,7 +333,7 @@ fn row_of(f: Found) -> usize
 }
 
 // Row `row` entered at the place that was found for it, if any.
-fn enter(f: Found, places: &mut [u32], row: usize)
+pub fn enter(f: Found, places: &mut [u32], row: usize)
     requires { ⌜ (row < rowLimit) × ((p : ℕ) → f ≡ Found.Free p → p < length (now places)) ⌝ }
     ensures { λ _. ⌜ now (places .exit) ≡ entered f (suc row) (now (places .entry)) ⌝ }
 {
@@ -436,7 +436,7 @@ fn add_one(
 }
 
 // The view of row `from` copied to each of the n rows from `to` on.
-fn copy_rows(views: &mut [u8], from: usize, to: usize, n: usize)
+pub fn copy_rows(views: &mut [u8], from: usize, to: usize, n: usize)
     requires { ⌜ (from < to) × (16 * (to + n) ≤ length (now views)) ⌝ }
     ensures { λ _. ⌜ now (views .exit) ≡ putCopies (now (views .entry)) to (viewAt (now (views .entry)) from) n ⌝ }
 {
@@ -448,7 +448,7 @@ fn copy_rows(views: &mut [u8], from: usize, to: usize, n: usize)
 }
 
 // The state with n valid rows more.
-fn rows_more(s: State, n: usize) -> State
+pub fn rows_more(s: State, n: usize) -> State
     requires { ⌜ s .rows + n ≤ rowLimit ⌝ }
     ensures { λ r. ⌜ r ≡ rowedBy n s ⌝ }
 {

@@ -2,16 +2,15 @@
 use mathlib.Core.Path.{_≡_, refl, sym, ap, _∙_}
 use mathlib.Core.List.{List, [], _∷_, _++_, append-assoc, append-nil}
 use mathlib.Core.Bool.{Bool, true, false}
-use Prim.Native.Nat.{ℕ, zero, suc, _+_, _-_, _*_, _^_, _≤_, _<_}
+use Prim.Native.Nat.{ℕ, zero, suc, _+_, _*_, _^_, _≤_, _<_}
 use native.Mathlib.Nat.{add-zero, zero-add, suc-add}
 use native.Mathlib.Omega.{arith}
 use borrow.Author.Tests.{lt-ltb, le-ltb, le-leb, lt-leb}
 use lib.ListN.{drop-of-length-le, length, take, drop, length-append, length-drop}
-use lib.Seq.{take-nil, take-append-le, take-at, drop-at, take-all, take-take, drop-drop, length-take-le, paste, drop-paste}
+use lib.Seq.{take-nil, take-append-le, take-at, drop-at, take-all, take-take, drop-drop, length-take-le, paste}
 use Rattle.basis.specs.Pick.{pick}
-use Rattle.words.specs.Words.{Bytes, wordAt, enc, pad}
-use Rattle.words.specs.WordLaws.{word-lt}
-use Rattle.words.specs.ListLaws.{length-enc, dec-enc, length-pad, take-pad, pad-short, take-length-pad, word-dec, word-part}
+use Rattle.words.specs.Words.{wordAt, enc, pad}
+use Rattle.words.specs.ListLaws.{length-enc, dec-enc, length-pad, take-pad, take-length-pad, word-dec, word-part}
 use Rattle.bounds.specs.Bounds.{byteLimit}
 use Rattle.bounds.specs.Refusals.{refuse, ifAccepted}
 use Rattle.bounds.specs.declared.Why.{Why}
@@ -43,13 +42,6 @@ module _ (d s : List ℕ) (at n : ℕ) where
       rw (append-assoc (take at d) (take n s) (drop (at + n) d), take-append-le (k + m) (take at d) (take n s ++ drop (at + n) d) (rw (length-take-le at d g) h))
       (take-take (k + m) at d h) in
       sym (drop-take k m (paste d at s n)) ∙ ap (drop k) same ∙ drop-take k m d
-
-  pub part-after : (k m : ℕ) → at + n ≤ k → at ≤ length d → n ≤ length s → take m (drop k (paste d at s n)) ≡ take m (drop k d)
-  part-after k m h g f =
-      let e : at + n + (k - (at + n)) ≡ k = omega arith in
-      let same : drop k (paste d at s n) ≡ drop k d =
-      rw (← e, ← drop-drop (k - (at + n)) (at + n) (paste d at s n), ← drop-drop (k - (at + n)) (at + n) d, drop-paste d at s n g f) in
-      ap (take m) same
 
 -- views of short values
 
@@ -91,9 +83,6 @@ module _ (x : List ℕ) (b o : ℕ) where
       rw (drop-at (enc 4 (length x)) (pad 4 x ++ (enc 4 b ++ enc 4 o)) 4 (length-enc 4 (length x)))
       (take-at (pad 4 x) (enc 4 b ++ enc 4 o) 4 (length-pad 4 x))
 
-  pub long-start : shortMost < length x → prefixOf (longView x b o) ≡ take 4 x
-  long-start h = long-prefix ∙ pad-short 4 x (omega arith)
-
   pub long-block : b < 2 ^ 32 → blockOf (longView x b o) ≡ b
   unfolding blockOf longView
   long-block h =
@@ -127,6 +116,7 @@ module _ (x : List ℕ) (b o : ℕ) where
       by true = length-short x
       by false = length-long x b o
 
+  -- end theorems, which nothing cites: a made view tells its value's length and first four bytes
   pub make-length : length x < 2 ^ 32 → lengthOf (makeView x b o) ≡ length x
   unfolding makeView
   make-length h = by (isShort (length x))
@@ -175,16 +165,6 @@ module _ (vs : List ℕ) (r : ℕ) where
   unfolding viewAt prefixOf
   prefix-at = rw (drop-take 4 12 (drop (16 * r) vs), drop-drop 4 (16 * r) vs) (take-take 4 12 (drop (16 * r + 4) vs) (omega arith))
 
-  -- the numbers fit their four bytes
-  pub length-lt : Bytes vs → lengthOf (viewAt vs r) < 2 ^ 32
-  length-lt hb = rw length-at (word-lt vs (16 * r) 4 hb)
-
-  pub block-lt : Bytes vs → blockOf (viewAt vs r) < 2 ^ 32
-  block-lt hb = rw block-at (word-lt vs (16 * r + 8) 4 hb)
-
-  pub offset-lt : Bytes vs → offsetOf (viewAt vs r) < 2 ^ 32
-  offset-lt hb = rw offset-at (word-lt vs (16 * r + 12) 4 hb)
-
 -- a row's view stored
 
 module _ (vs v : List ℕ) (r : ℕ) (len : length v ≡ viewSize) (room : viewSize * r + viewSize ≤ length vs) where
@@ -195,10 +175,6 @@ module _ (vs v : List ℕ) (r : ℕ) (len : length v ≡ viewSize) (room : viewS
   pub view-before : (q : ℕ) → q < r → viewAt (paste vs (viewSize * r) v viewSize) q ≡ viewAt vs q
   unfolding viewAt
   view-before q h = part-before vs v (16 * r) 16 (16 * q) 16 (omega arith) (omega arith)
-
-  pub view-after : (q : ℕ) → r < q → viewAt (paste vs (viewSize * r) v viewSize) q ≡ viewAt vs q
-  unfolding viewAt
-  view-after q h = part-after vs v (16 * r) 16 (16 * q) 16 (omega arith) (omega arith) (omega arith)
 
 -- a view stored over sixteen bytes is all of them
 pub view-whole : (d v : List ℕ) → length d ≡ viewSize → length v ≡ viewSize → paste d 0 v viewSize ≡ v

@@ -1,8 +1,10 @@
+-- `order::by_words` meets its contract. Assumes nothing.
 use mathlib.Core.Path.{_≡_, _∙_}
 use lib.ListN.{length}
 use Prim.Native.Nat.{_-_, _≤_, min}
 use Rattle.order.specs.Order.{Agree}
 use Rattle.order.proofs.Laws.{word-same, word-decides, lengths-decide}
+use Rattle.words.specs.Words.{Bytes}
 use denote.Ref.{now}
 use native.Mathlib.Omega.{arith}
 use borrow.Author.Needs.{needs}
@@ -34,8 +36,11 @@ returns : tie.Need-returns Inv-loop μ-loop
 returns c =
     let s = c .before .before .before .before .before .before .before .before .args in
     let l = c .before .before .before .before .before .loop in
-    c .by-word .ensures
-    ∙ word-decides (now (s .a)) (now (s .b)) (l .i) 8 _ _ (λ j. c .before .before .before .before .before .before .before .shared-slice-known .given j .fits) (λ j. c .before .before .before .before .before .before .shared-slice-known2 .given j .fits) (omega arith) (omega arith) (l .inv .2) (c .before .before .before .be64 .ensures) (c .before .before .be642 .ensures) (c .before .if1 .taken)
+    let ha : Bytes (now (s .a)) = λ j. c .before .before .before .before .before .before .before .shared-slice-known .given j .fits in
+    let hb : Bytes (now (s .b)) = λ j. c .before .before .before .before .before .before .shared-slice-known2 .given j .fits in
+    let x = c .before .before .before .be64 .ensures in
+    let y = c .before .before .be642 .ensures in
+    c .by-word .ensures ∙ word-decides (now (s .a)) (now (s .b)) (l .i) 8 _ _ ha hb (omega arith) (omega arith) (l .inv .2) x y (c .before .if1 .taken)
 
 add-i : tie.Need-add-i Inv-loop μ-loop
 add-i c = search needs
@@ -47,7 +52,10 @@ loop-again : tie.Need-loop-again Inv-loop μ-loop
 loop-again c =
     let s = c .before .before .before .before .before .before .before .args in
     let l = c .before .before .before .before .loop in
-    (search needs, search needs, word-same (now (s .a)) (now (s .b)) (l .i) 8 _ _ (λ j. c .before .before .before .before .before .before .shared-slice-known .given j .fits) (λ j. c .before .before .before .before .before .shared-slice-known2 .given j .fits) (l .inv .2) (c .before .before .be64 .ensures) (c .before .be642 .ensures) (c .if1 .left))
+    let ha : Bytes (now (s .a)) = λ j. c .before .before .before .before .before .before .shared-slice-known .given j .fits in
+    let hb : Bytes (now (s .b)) = λ j. c .before .before .before .before .before .shared-slice-known2 .given j .fits in
+    let on = word-same (now (s .a)) (now (s .b)) (l .i) 8 _ _ ha hb (l .inv .2) (c .before .before .be64 .ensures) (c .before .be642 .ensures) (c .if1 .left) in
+    (search needs, search needs, on)
 
 sub-be64 : tie.Need-sub-be64 Inv-loop μ-loop
 sub-be64 c = search needs
@@ -68,8 +76,12 @@ returns-2 : tie.Need-returns-2 Inv-loop μ-loop
 returns-2 c =
     let s = c .before .before .before .before .before .before .before .before .args in
     let l = c .before .before .before .before .before .loop in
-    c .by-word2 .ensures
-    ∙ word-decides (now (s .a)) (now (s .b)) (s .n - 8) 8 _ _ (λ j. c .before .before .before .before .before .before .before .shared-slice-known .given j .fits) (λ j. c .before .before .before .before .before .before .shared-slice-known2 .given j .fits) (omega arith) (omega arith) (λ k h. l .inv .2 k (omega arith)) (c .before .before .before .be643 .ensures) (c .before .before .be644 .ensures) (c .before .if2 .taken)
+    let ha : Bytes (now (s .a)) = λ j. c .before .before .before .before .before .before .before .shared-slice-known .given j .fits in
+    let hb : Bytes (now (s .b)) = λ j. c .before .before .before .before .before .before .shared-slice-known2 .given j .fits in
+    let x = c .before .before .before .be643 .ensures in
+    let y = c .before .before .be644 .ensures in
+    let before : Agree (now (s .a)) (now (s .b)) 0 (s .n - 8) = λ k h. l .inv .2 k (omega arith) in
+    c .by-word2 .ensures ∙ word-decides (now (s .a)) (now (s .b)) (s .n - 8) 8 _ _ ha hb (omega arith) (omega arith) before x y (c .before .if2 .taken)
 
 by-word-requires-3 : tie.Need-by-word-requires-3 Inv-loop μ-loop
 by-word-requires-3 c κs = search needs
@@ -78,8 +90,13 @@ returns-3 : tie.Need-returns-3 Inv-loop μ-loop
 returns-3 c =
     let s = c .before .before .before .before .before .before .before .before .args in
     let l = c .before .before .before .before .before .loop in
-    c .by-word3 .ensures
-    ∙ lengths-decide (now (s .a)) (now (s .b)) (λ k h. word-same (now (s .a)) (now (s .b)) (s .n - 8) 8 _ _ (λ j. c .before .before .before .before .before .before .before .shared-slice-known .given j .fits) (λ j. c .before .before .before .before .before .before .shared-slice-known2 .given j .fits) (λ j g. l .inv .2 j (omega arith)) (c .before .before .before .be643 .ensures) (c .before .before .be644 .ensures) (c .before .if2 .left) k (omega arith))
+    let ha : Bytes (now (s .a)) = λ j. c .before .before .before .before .before .before .before .shared-slice-known .given j .fits in
+    let hb : Bytes (now (s .b)) = λ j. c .before .before .before .before .before .before .shared-slice-known2 .given j .fits in
+    let x = c .before .before .before .be643 .ensures in
+    let y = c .before .before .be644 .ensures in
+    let before : Agree (now (s .a)) (now (s .b)) 0 (s .n - 8) = λ k h. l .inv .2 k (omega arith) in
+    let all = word-same (now (s .a)) (now (s .b)) (s .n - 8) 8 _ _ ha hb before x y (c .before .if2 .left) in
+    c .by-word3 .ensures ∙ lengths-decide (now (s .a)) (now (s .b)) (λ k h. all k (omega arith))
 
 pub by-words-spec : {M : Type 1} → statement M
 by-words-spec =

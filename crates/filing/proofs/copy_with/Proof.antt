@@ -1,0 +1,45 @@
+use mathlib.Core.Path.{sym, _∙_}
+use Rattle.bounds.specs.Bounds.{block-limit-small}
+use borrow.Author.Tests.{not-true, not-false}
+use Rattle.filing.specs.FilesLaws.{fitted}
+use Rattle.filing.specs.EndLaws.{ended-no, ended-copied}
+use denote.Ref.{now}
+use native.Mathlib.Omega.{arith}
+use borrow.Author.Needs.{needs}
+use Rattle.filing.proofs.copy_with.Statement.{statement}
+use Rattle.filing.proofs.copy_with.Tie as tie
+use Rattle.filing.proofs.copy_with.Reads as reads
+use Rattle.filing.proofs.copy_with.Lts as lts
+use Rattle.filing.proofs.fits_with.Reads as fits-with-reads
+use Rattle.filing.proofs.open_record.Reads as open-record-reads
+use Rattle.finishing.proofs.column_of.Reads as column-of-reads
+use Rattle.finishing.proofs.refused.Reads as refused-reads
+
+fits-with-requires : tie.Need-fits-with-requires
+fits-with-requires c κs = search needs
+
+refused-requires : tie.Need-refused-requires
+refused-requires c κs = search needs
+
+returns : tie.Need-returns
+returns c = ended-no (c .before .before .before .before .before .before .before .args .s) (now (c .before .before .before .before .before .before .before .args .views)) (now (c .before .before .before .before .before .before .before .args .bytes)) (now (c .before .before .before .before .before .before .before .args .nulls)) (now (c .before .before .before .before .before .before .before .args .places)) (c .before .before .before .before .before .before .before .args .count) _ _ _ _ (sym (c .before .before .fits-with .ensures) ∙ not-true _ (c .before .if1 .taken)) (c .refused .ensures .0) (c .refused .ensures .1)
+
+open-record-requires : tie.Need-open-record-requires
+open-record-requires c κs = search needs
+
+column-of-requires : tie.Need-column-of-requires
+column-of-requires c κs = let f = fitted (c .before .before .before .before .before .before .before .args .s) (now (c .before .before .before .before .before .before .before .args .views)) (now (c .before .before .before .before .before .before .before .args .bytes)) (now (c .before .before .before .before .before .before .before .args .nulls)) (now (c .before .before .before .before .before .before .before .args .places)) (c .before .before .before .before .before .before .before .args .count) (sym (c .before .before .fits-with .ensures) ∙ not-false _ (c .before .if1 .left)) in omega (arith, f .blocks, block-limit-small)
+
+returns-2 : tie.Need-returns-2
+returns-2 c = ended-copied (c .before .before .before .before .before .before .before .before .before .args .s) (now (c .before .before .before .before .before .before .before .before .before .args .views)) (now (c .before .before .before .before .before .before .before .before .before .args .bytes)) (now (c .before .before .before .before .before .before .before .before .before .args .nulls)) (now (c .before .before .before .before .before .before .before .before .before .args .places)) (c .before .before .before .before .before .before .before .before .before .args .count) (sym (c .before .before .before .before .fits-with .ensures) ∙ not-false _ (c .before .before .before .if1 .left)) _ (c .before .column-of .ensures) _ _ (c .before .before .open-record .ensures)
+
+pub copy-with-spec : {M : Type 1} → statement M
+copy-with-spec =
+    tie.close
+    (tie.spec
+    fits-with-requires
+    refused-requires
+    returns
+    open-record-requires
+    column-of-requires
+    returns-2)

@@ -1,0 +1,59 @@
+use mathlib.Core.Path.{sym, _∙_}
+use Rattle.bounds.specs.Bounds.{block-limit-small}
+use borrow.Author.Tests.{not-true, not-false}
+use Rattle.filing.specs.FilesLaws.{fitted}
+use Rattle.filing.specs.EndLaws.{ended-no, ended-finished}
+use denote.Ref.{now}
+use native.Mathlib.Omega.{arith}
+use borrow.Author.Needs.{needs}
+use Rattle.filing.proofs.finish_with.Statement.{statement}
+use Rattle.filing.proofs.finish_with.Tie as tie
+use Rattle.filing.proofs.finish_with.Reads as reads
+use Rattle.filing.proofs.finish_with.Lts as lts
+use Rattle.filing.proofs.fits_with.Reads as fits-with-reads
+use Rattle.filing.proofs.open_record.Reads as open-record-reads
+use Rattle.finishing.proofs.clear.Reads as clear-reads
+use Rattle.finishing.proofs.column_of.Reads as column-of-reads
+use Rattle.finishing.proofs.empty_state.Reads as empty-state-reads
+use Rattle.finishing.proofs.refused.Reads as refused-reads
+
+fits-with-requires : tie.Need-fits-with-requires
+fits-with-requires c κs = search needs
+
+refused-requires : tie.Need-refused-requires
+refused-requires c κs = search needs
+
+returns : tie.Need-returns
+returns c = ended-no (c .before .before .before .before .before .before .before .args .s) (now (c .before .before .before .before .before .before .before .args .views)) (now (c .before .before .before .before .before .before .before .args .bytes)) (now (c .before .before .before .before .before .before .before .args .nulls)) (now (c .before .before .before .before .before .before .before .args .places)) (c .before .before .before .before .before .before .before .args .count) _ _ _ _ (sym (c .before .before .fits-with .ensures) ∙ not-true _ (c .before .if1 .taken)) (c .refused .ensures .0) (c .refused .ensures .1)
+
+clear-requires : tie.Need-clear-requires
+clear-requires c κs = search needs
+
+open-record-requires : tie.Need-open-record-requires
+open-record-requires c κs = search needs
+
+column-of-requires : tie.Need-column-of-requires
+column-of-requires c κs = let f = fitted (c .before .before .before .before .before .before .before .before .before .before .before .args .s) (now (c .before .before .before .before .before .before .before .before .before .before .before .args .views)) (now (c .before .before .before .before .before .before .before .before .before .before .before .args .bytes)) (now (c .before .before .before .before .before .before .before .before .before .before .before .args .nulls)) (now (c .before .before .before .before .before .before .before .before .before .before .before .args .places)) (c .before .before .before .before .before .before .before .before .before .before .before .args .count) (sym (c .before .before .before .before .before .before .fits-with .ensures) ∙ not-false _ (c .before .before .before .before .before .if1 .left)) in omega (arith, f .blocks, block-limit-small)
+
+empty-state-requires : tie.Need-empty-state-requires
+empty-state-requires c κs = search needs
+
+same-length : tie.Need-same-length
+same-length c = search needs
+
+returns-2 : tie.Need-returns-2
+returns-2 c = ended-finished (c .before .before .before .before .before .before .before .before .before .before .before .before .before .before .args .s) (now (c .before .before .before .before .before .before .before .before .before .before .before .before .before .before .args .views)) (now (c .before .before .before .before .before .before .before .before .before .before .before .before .before .before .args .bytes)) (now (c .before .before .before .before .before .before .before .before .before .before .before .before .before .before .args .nulls)) (now (c .before .before .before .before .before .before .before .before .before .before .before .before .before .before .args .places)) (c .before .before .before .before .before .before .before .before .before .before .before .before .before .before .args .count) (sym (c .before .before .before .before .before .before .before .before .before .fits-with .ensures) ∙ not-false _ (c .before .before .before .before .before .before .before .before .if1 .left)) _ (c .before .before .column-of .ensures) _ _ (c .before .before .before .open-record .ensures) _ (c .before .empty-state .ensures) (c .before .before .before .before .before .before .clear .ensures)
+
+pub finish-with-spec : {M : Type 1} → statement M
+finish-with-spec =
+    tie.close
+    (tie.spec
+    fits-with-requires
+    refused-requires
+    returns
+    clear-requires
+    open-record-requires
+    column-of-requires
+    empty-state-requires
+    same-length
+    returns-2)

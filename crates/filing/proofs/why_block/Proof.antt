@@ -1,0 +1,48 @@
+use Rattle.bounds.specs.Bounds.{byte-limit-is, block-limit-small, byte-limit-small}
+use Rattle.filing.specs.LayLaws.{block-fit, block-long, block-room, fits-small}
+use borrow.Author.Tests.{not-true, not-false}
+use mathlib.Core.Path.{refl, sym, ap, _∙_}
+use denote.Ref.{now}
+use native.Mathlib.Omega.{arith}
+use borrow.Author.Needs.{needs}
+use Rattle.filing.proofs.why_block.Statement.{statement}
+use Rattle.filing.proofs.why_block.Tie as tie
+use Rattle.filing.proofs.why_block.Reads as reads
+use Rattle.filing.proofs.why_block.Lts as lts
+use Rattle.appending.proofs.why_room.Reads as why-room-reads
+use Rattle.builder.proofs.blocks_room.Reads as blocks-room-reads
+use Rattle.builder.proofs.bytes_room.Reads as bytes-room-reads
+use Rattle.filing.proofs.fits_with.Reads as fits-with-reads
+
+fits-with-requires : tie.Need-fits-with-requires
+fits-with-requires c κs = search needs
+
+returns : tie.Need-returns
+returns c = block-fit _ _ _ _ _ _ _ (sym (c .before .fits-with .ensures) ∙ not-true _ (c .if1 .taken))
+
+returns-2 : tie.Need-returns-2
+returns-2 c = block-long _ _ _ _ _ _ _ (sym (c .before .before .fits-with .ensures) ∙ not-false _ (c .before .if1 .left)) (omega (arith, byte-limit-is))
+
+blocks-room-requires : tie.Need-blocks-room-requires
+blocks-room-requires c κs = search needs
+
+bytes-room-requires : tie.Need-bytes-room-requires
+bytes-room-requires c κs = search needs
+
+why-room-requires : tie.Need-why-room-requires
+why-room-requires c κs = let f = fits-small _ _ _ _ _ _ (c .before .before .before .before .before .args .n) (sym (c .before .before .before .before .fits-with .ensures) ∙ not-false _ (c .before .before .before .if1 .left)) in (omega (arith, f .0, block-limit-small), omega (arith, f .1, byte-limit-small))
+
+returns-3 : tie.Need-returns-3
+returns-3 c = block-room _ _ _ _ _ _ _ (sym (c .before .before .before .before .before .fits-with .ensures) ∙ not-false _ (c .before .before .before .before .if1 .left)) (omega (arith, byte-limit-is)) _ _ _ (c .before .before .blocks-room .ensures) (c .before .bytes-room .ensures) (c .why-room .ensures)
+
+pub why-block-spec : {M : Type 1} → statement M
+why-block-spec =
+    tie.close
+    (tie.spec
+    fits-with-requires
+    returns
+    returns-2
+    blocks-room-requires
+    bytes-room-requires
+    why-room-requires
+    returns-3)

@@ -1,0 +1,6 @@
+pub mod Files
+pub mod Rows
+pub mod FilesLaws
+pub mod EndLaws
+pub mod RowLaws
+pub mod LayLaws

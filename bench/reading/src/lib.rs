@@ -1,4 +1,4 @@
-//! The static library's calls on columns, made safe: a slice crosses as its pointer and its count of elements, a column's five numbers as a pointer. An answer of more than two
+//! The static library's calls on columns, made safe: a slice crosses as its pointer and its count of elements. An answer of more than two
 //! words is written where a first pointer says, which is how C returns it on x86-64 and what the library's code does on every machine.
 
 use arrow_array::types::ByteViewType;
@@ -92,7 +92,7 @@ macro_rules! declared {
                 $($out: $kind,)?
                 views: *const u8, views_len: usize, bytes: *const u8, bytes_len: usize,
                 starts: *const usize, starts_len: usize, lens: *const usize, lens_len: usize,
-                nulls: *const u8, nulls_len: usize, column: *const [usize; 5],
+                nulls: *const u8, nulls_len: usize, column: *const usize, column_len: usize,
                 $($arg: usize),*
             ) $(-> $answer)?;)*
         }
@@ -119,18 +119,18 @@ unsafe extern "C" {
     fn tambuyeel_compare(
         views: *const u8, views_len: usize, bytes: *const u8, bytes_len: usize,
         starts: *const usize, starts_len: usize, lens: *const usize, lens_len: usize,
-        nulls: *const u8, nulls_len: usize, column: *const [usize; 5], i: usize,
+        nulls: *const u8, nulls_len: usize, column: *const usize, column_len: usize, i: usize,
         views2: *const u8, views_len2: usize, bytes2: *const u8, bytes_len2: usize,
         starts2: *const usize, starts_len2: usize, lens2: *const usize, lens_len2: usize,
-        nulls2: *const u8, nulls_len2: usize, column2: *const [usize; 5], j: usize,
+        nulls2: *const u8, nulls_len2: usize, column2: *const usize, column_len2: usize, j: usize,
     ) -> u64;
     fn tambuyeel_same_column(
         views: *const u8, views_len: usize, bytes: *const u8, bytes_len: usize,
         starts: *const usize, starts_len: usize, lens: *const usize, lens_len: usize,
-        nulls: *const u8, nulls_len: usize, column: *const [usize; 5],
+        nulls: *const u8, nulls_len: usize, column: *const usize, column_len: usize,
         views2: *const u8, views_len2: usize, bytes2: *const u8, bytes_len2: usize,
         starts2: *const usize, starts_len2: usize, lens2: *const usize, lens_len2: usize,
-        nulls2: *const u8, nulls_len2: usize, column2: *const [usize; 5],
+        nulls2: *const u8, nulls_len2: usize, column2: *const usize, column_len2: usize,
     ) -> Told;
 }
 
@@ -142,11 +142,11 @@ macro_rules! lent {
                 $($before,)*
                 $l.views.as_ptr(), $l.views.len(), $l.bytes.as_ptr(), $l.bytes.len(),
                 $l.starts.as_ptr(), $l.starts.len(), $l.lens.as_ptr(), $l.lens.len(),
-                $l.nulls.as_ptr(), $l.nulls.len(), &$l.column,
+                $l.nulls.as_ptr(), $l.nulls.len(), $l.column.as_ptr(), $l.column.len(),
                 $($after,)*
                 $($r.views.as_ptr(), $r.views.len(), $r.bytes.as_ptr(), $r.bytes.len(),
                 $r.starts.as_ptr(), $r.starts.len(), $r.lens.as_ptr(), $r.lens.len(),
-                $r.nulls.as_ptr(), $r.nulls.len(), &$r.column,
+                $r.nulls.as_ptr(), $r.nulls.len(), $r.column.as_ptr(), $r.column.len(),
                 $($last,)*)?
             )
         }

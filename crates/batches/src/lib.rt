@@ -24,7 +24,7 @@ pub extern "C" fn tambuyeel_count_less<'a>(
     starts: &[usize],
     lens: &[usize],
     nulls: &[u8],
-    column: &[usize; 5],
+    column: &[usize],
 ) -> u64
     ensures { λ r. ⌜ r ≡ lessBatch (lent (now (views .entry)) (now (bytes .entry)) (now (starts .entry)) (now (lens .entry)) (now (nulls .entry))) (columnOf (now (column .entry))) ⌝ }
 {
@@ -74,7 +74,7 @@ pub extern "C" fn tambuyeel_read_all<'a>(
     starts: &[usize],
     lens: &[usize],
     nulls: &[u8],
-    column: &[usize; 5],
+    column: &[usize],
 ) -> u64
     ensures { λ r. ⌜ r ≡ tasteBatch (lent (now (views .entry)) (now (bytes .entry)) (now (starts .entry)) (now (lens .entry)) (now (nulls .entry))) (columnOf (now (column .entry))) ⌝ }
 {

@@ -144,7 +144,7 @@ pub extern "C" fn tambuyeel_why_value(
     starts: &[usize],
     lens: &[usize],
     nulls: &[u8],
-    column: &[usize; 5],
+    column: &[usize],
     row: usize,
 ) -> u8
     ensures { λ r. ⌜ r ≡ whyNumber (whyValue (lent (now (views .entry)) (now (bytes .entry)) (now (starts .entry)) (now (lens .entry)) (now (nulls .entry))) (columnOf (now (column .entry))) row) ⌝ }
@@ -168,7 +168,7 @@ pub extern "C" fn tambuyeel_check<'a>(
     starts: &[usize],
     lens: &[usize],
     nulls: &[u8],
-    column: &[usize; 5],
+    column: &[usize],
 ) -> Told
     ensures { λ r. ⌜ r ≡ whyTold (whyInvalid (lent (now (views .entry)) (now (bytes .entry)) (now (starts .entry)) (now (lens .entry)) (now (nulls .entry))) (columnOf (now (column .entry)))) ⌝ }
 {
@@ -183,14 +183,14 @@ pub extern "C" fn tambuyeel_compare<'a>(
     starts: &[usize],
     lens: &[usize],
     nulls: &[u8],
-    column: &[usize; 5],
+    column: &[usize],
     i: usize,
     views2: &'a [u8],
     bytes2: &'a [u8],
     starts2: &[usize],
     lens2: &[usize],
     nulls2: &[u8],
-    column2: &[usize; 5],
+    column2: &[usize],
     j: usize,
 ) -> u64
     ensures { λ r. ⌜ r ≡ comparedNumber (compareRows (lent (now (views .entry)) (now (bytes .entry)) (now (starts .entry)) (now (lens .entry)) (now (nulls .entry))) (columnOf (now (column .entry))) i (lent (now (views2 .entry)) (now (bytes2 .entry)) (now (starts2 .entry)) (now (lens2 .entry)) (now (nulls2 .entry))) (columnOf (now (column2 .entry))) j) ⌝ }
@@ -223,13 +223,13 @@ pub extern "C" fn tambuyeel_same_column<'a>(
     starts: &[usize],
     lens: &[usize],
     nulls: &[u8],
-    column: &[usize; 5],
+    column: &[usize],
     views2: &'a [u8],
     bytes2: &'a [u8],
     starts2: &[usize],
     lens2: &[usize],
     nulls2: &[u8],
-    column2: &[usize; 5],
+    column2: &[usize],
 ) -> Told
     ensures { λ r. ⌜ r ≡ sameTold (sameColumn (lent (now (views .entry)) (now (bytes .entry)) (now (starts .entry)) (now (lens .entry)) (now (nulls .entry))) (columnOf (now (column .entry))) (lent (now (views2 .entry)) (now (bytes2 .entry)) (now (starts2 .entry)) (now (lens2 .entry)) (now (nulls2 .entry))) (columnOf (now (column2 .entry)))) ⌝ }
 {
@@ -290,7 +290,7 @@ pub extern "C" fn tambuyeel_value(
     starts: &[usize],
     lens: &[usize],
     nulls: &[u8],
-    column: &[usize; 5],
+    column: &[usize],
     row: usize,
 ) -> Place
     ensures { λ r. ⌜ r ≡ placeAt (lent (now (views .entry)) (now (bytes .entry)) (now (starts .entry)) (now (lens .entry)) (now (nulls .entry))) (columnOf (now (column .entry))) row ⌝ }

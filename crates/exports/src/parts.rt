@@ -70,7 +70,7 @@ pub extern "C" fn tambuyeel_length(
     starts: &[usize],
     lens: &[usize],
     nulls: &[u8],
-    column: &[usize; 5],
+    column: &[usize],
     row: usize,
 ) -> Counted
     ensures { λ r. ⌜ r ≡ numberTold (spec.lengthAt (lent (now (views .entry)) (now (bytes .entry)) (now (starts .entry)) (now (lens .entry)) (now (nulls .entry))) (columnOf (now (column .entry))) row) ⌝ }
@@ -94,7 +94,7 @@ pub extern "C" fn tambuyeel_null_bit(
     starts: &[usize],
     lens: &[usize],
     nulls: &[u8],
-    column: &[usize; 5],
+    column: &[usize],
     row: usize,
 ) -> Counted
     ensures { λ r. ⌜ r ≡ bitTold (spec.bitOf (lent (now (views .entry)) (now (bytes .entry)) (now (starts .entry)) (now (lens .entry)) (now (nulls .entry))) (columnOf (now (column .entry))) row) ⌝ }
@@ -118,7 +118,7 @@ pub extern "C" fn tambuyeel_null_run(
     starts: &[usize],
     lens: &[usize],
     nulls: &[u8],
-    column: &[usize; 5],
+    column: &[usize],
     start: usize,
     count: usize,
 ) -> Counted
@@ -144,7 +144,7 @@ pub extern "C" fn tambuyeel_slice(
     starts: &[usize],
     lens: &[usize],
     nulls: &[u8],
-    column: &[usize; 5],
+    column: &[usize],
     start: usize,
     count: usize,
 ) -> Run
@@ -170,7 +170,7 @@ pub extern "C" fn tambuyeel_total_bytes_len(
     starts: &[usize],
     lens: &[usize],
     nulls: &[u8],
-    column: &[usize; 5],
+    column: &[usize],
 ) -> Counted
     ensures { λ r. ⌜ r ≡ numberTold (spec.totalBytesLen (lent (now (views .entry)) (now (bytes .entry)) (now (starts .entry)) (now (lens .entry)) (now (nulls .entry))) (columnOf (now (column .entry)))) ⌝ }
 {
@@ -192,7 +192,7 @@ pub extern "C" fn tambuyeel_total_buffer_bytes_used(
     starts: &[usize],
     lens: &[usize],
     nulls: &[u8],
-    column: &[usize; 5],
+    column: &[usize],
 ) -> Counted
     ensures { λ r. ⌜ r ≡ numberTold (spec.totalBufferBytesUsed (lent (now (views .entry)) (now (bytes .entry)) (now (starts .entry)) (now (lens .entry)) (now (nulls .entry))) (columnOf (now (column .entry)))) ⌝ }
 {
@@ -214,7 +214,7 @@ pub extern "C" fn tambuyeel_prefix(
     starts: &[usize],
     lens: &[usize],
     nulls: &[u8],
-    column: &[usize; 5],
+    column: &[usize],
     row: usize,
     n: usize,
 ) -> Place
@@ -245,7 +245,7 @@ pub extern "C" fn tambuyeel_suffix(
     starts: &[usize],
     lens: &[usize],
     nulls: &[u8],
-    column: &[usize; 5],
+    column: &[usize],
     row: usize,
     n: usize,
 ) -> Place

@@ -23,8 +23,8 @@ enum-known-why c = search needs
 number-requires : tie.Need-number-requires
 number-requires c κs = search needs
 
-cast-t14 : tie.Need-cast-t14
-cast-t14 c = search needs
+cast-t12 : tie.Need-cast-t12
+cast-t12 c = search needs
 
 returns : tie.Need-returns
 returns c = rw (c .before .before .before .before .before .column-of .ensures) at (place-refused _ _ _ _ (c .before .before .before .before .why-value .ensures) _ (c .before .before .why .given .1) _ (c .number .ensures))
@@ -49,7 +49,7 @@ tambuyeel-value-spec =
     why-value-requires
     enum-known-why
     number-requires
-    cast-t14
+    cast-t12
     returns
     enum-told
     add-place-of

@@ -1,163 +1,107 @@
-// Lists the column that the lines of standard input make: reads, calls, and writes piece by piece.
+// Lists the column that the lines of standard input make: reads, calls, and writes piece by piece. Where a read or a write fails it stops and says so on standard error.
+// A program of this language has no exit status. Started as `shelflist --status` it writes to descriptor 3 the digit that `./shelflist` then ends with:
+// 0 for a listing, 1 for a refused input, 2 where a read or a write failed.
 use column::Column;
+use libc::STDIN_FILENO;
 use libc::STDOUT_FILENO;
-use reading::Bit;
-use reading::Number;
-use shelf::Item;
-ghost use Prim.Native.Nat.{_≤_, _<_};
+use whole::Place;
+ghost use Prim.Native.Nat.{_+_, _≤_};
 ghost use lib.ListN.{length};
+ghost use Rattle.io.specs.Counts.{Counts};
 
-fn say_refused(n: usize) {
-    let mut out = [0u8; 200];
-    let w = listing::put_refused(&mut out, n);
-    io::write_all(STDOUT_FILENO, &out[..w]);
+const STATUS_FILENO: i32 = 3;
+
+// One byte more than an input may have, so that too much is seen.
+const MOST: usize = 16385;
+
+// How many bytes came, and whether it was a failure that ended them.
+struct Got {
+    failed: bool,
+    count: usize,
 }
 
-fn show_open() {
-    let mut out = [0u8; 200];
-    let w = listing::put_row_open(&mut out);
-    io::write_all(STDOUT_FILENO, &out[..w]);
-}
-
-fn show_close() {
-    let mut out = [0u8; 200];
-    let w = listing::put_row_close(&mut out);
-    io::write_all(STDOUT_FILENO, &out[..w]);
-}
-
-// A value's bytes in brackets, part by part.
-fn show_value(x: &[u8]) {
-    show_open();
-    let mut at = 0;
-    while at < x.len() {
-        at = show_part(x, at);
-    }
-    show_close();
-}
-
-// The next part of a value, and where the one after it begins.
-fn show_part(x: &[u8], at: usize) -> usize
-    requires { ⌜ at < length (now x) ⌝ }
-    ensures { λ r. ⌜ (at < r) × (r ≤ length (now (x .entry))) ⌝ }
+// One read, from byte `at` of the input on.
+fn read_more(input: &mut [u8], at: usize) -> Got
+    requires { ⌜ at ≤ length (now input) ⌝ }
+    ensures { λ r. ⌜ at + r .count ≤ length (now (input .entry)) ⌝ }
 {
-    let mut out = [0u8; 4000];
-    let to = shelf::part_end(x.len(), at);
-    let w = listing::row_part(&mut out, x, at, to);
-    io::write_all(STDOUT_FILENO, &out[..w]);
-    to
-}
-
-fn show_null() {
-    let mut out = [0u8; 200];
-    let w = listing::put_row_null(&mut out);
-    io::write_all(STDOUT_FILENO, &out[..w]);
-}
-
-fn show_gap(n: usize) {
-    let mut out = [0u8; 200];
-    let w = listing::put_gap(&mut out, n);
-    io::write_all(STDOUT_FILENO, &out[..w]);
-}
-
-fn show_row<'a>(
-    views: &'a [u8],
-    bytes: &'a [u8],
-    starts: &[usize],
-    lens: &[usize],
-    nulls: &[u8],
-    c: Column,
-    row: usize,
-) {
-    let bit = reading::null_bit(views, bytes, starts, lens, nulls, c, row);
-    match bit {
-        Bit::Valid => show_value(reading::value(views, bytes, starts, lens, nulls, c, row)),
-        Bit::Null => show_null(),
-        Bit::Refused(r) => show_null(),
+    let got = libc::read(STDIN_FILENO, &mut input[at..]);
+    if got < 0 {
+        return Got {
+            failed: true,
+            count: 0,
+        };
+    }
+    Got {
+        failed: false,
+        count: io::count(got, &input[at..]),
     }
 }
 
-fn show_item<'a>(
-    views: &'a [u8],
-    bytes: &'a [u8],
-    starts: &[usize],
-    lens: &[usize],
-    nulls: &[u8],
-    c: Column,
-    item: Item,
-) {
-    match item {
-        Item::Row(r) => show_row(views, bytes, starts, lens, nulls, c, r),
-        Item::Gap(n) => show_gap(n),
+// Reads until the input is full, ends, or fails.
+fn read_all(input: &mut [u8]) -> Got
+    ensures { λ r. ⌜ Counts (r .count) (now (input .exit)) ⌝ }
+{
+    let mut done = 0;
+    while done < input.len() {
+        let got = read_more(input, done);
+        let n = got.count;
+        if n == 0 {
+            return Got {
+                failed: got.failed,
+                count: done,
+            };
+        }
+        done += n;
+    }
+    Got {
+        failed: false,
+        count: done,
     }
 }
 
-// A number that was asked for of a column that fits: always there.
-fn number(n: Number) -> usize {
-    match n {
-        Number::Is(k) => k,
-        Number::Refused(r) => 0,
+// Writes the pieces from a place on, until all are written or a write fails.
+fn write_pieces<'a>(
+    views: &'a [u8; answering::VIEWS],
+    bytes: &'a [u8; answering::BYTES],
+    starts: &[usize; 1],
+    lens: &[usize; 1],
+    nulls: &[u8; answering::NULLS],
+    c: Column,
+    first: Place,
+) -> bool {
+    let mut out = [0u8; whole::ROOM];
+    let mut p = first;
+    while !whole::ended(p) {
+        let r = whole::next_piece(views, bytes, starts, lens, nulls, c, p, &mut out);
+        let w = r.written;
+        if !io::write_all(STDOUT_FILENO, &out[..w]) {
+            return false;
+        }
+        p = r.place;
+    }
+    true
+}
+
+fn is_refusal(p: Place) -> bool {
+    match p {
+        Place::Refused(n) => true,
+        Place::Opening => false,
+        Place::Line(k) => false,
+        Place::Part(k, at) => false,
+        Place::End => false,
     }
 }
 
-fn show<'a>(
-    views: &'a [u8],
-    bytes: &'a [u8],
-    starts: &[usize],
-    lens: &[usize],
-    nulls: &[u8],
-    c: Column,
-) {
-    let mut out = [0u8; 200];
-    let a = listing::put_opening(&mut out);
-    io::write_all(STDOUT_FILENO, &out[..a]);
-    show_items(views, bytes, starts, lens, nulls, c);
-    let rows = c.rows;
-    let blocks = c.blocks;
-    let z = listing::put_closing(
-        &mut out,
-        rows,
-        number(reading::null_run(views, bytes, starts, lens, nulls, c, 0, rows)),
-        number(reading::total_bytes_len(views, bytes, starts, lens, nulls, c)),
-        number(reading::total_buffer_bytes_used(views, bytes, starts, lens, nulls, c)),
-        blocks,
-    );
-    io::write_all(STDOUT_FILENO, &out[..z]);
-}
-
-fn show_items<'a>(
-    views: &'a [u8],
-    bytes: &'a [u8],
-    starts: &[usize],
-    lens: &[usize],
-    nulls: &[u8],
-    c: Column,
-) {
-    let rows = c.rows;
-    let n = shelf::items(rows);
-    let mut k = 0;
-    while k < n {
-        show_item(
-            views,
-            bytes,
-            starts,
-            lens,
-            nulls,
-            c,
-            shelf::nth_item(rows, k),
-        );
-        k += 1;
-    }
-}
-
-// The column of the lines, listed.
-fn list(input: &[u8]) {
-    let mut views = [0u8; 43680];
-    let mut bytes = [0u8; 16379];
+// Writes the answer, and answers the status. A pipe that was closed is no news.
+fn answer(input: &[u8]) -> u8 {
+    let mut views = [0u8; answering::VIEWS];
+    let mut bytes = [0u8; answering::BYTES];
     let mut starts = [0usize; 1];
     let mut lens = [0usize; 1];
-    let mut nulls = [0u8; 342];
+    let mut nulls = [0u8; answering::NULLS];
     let mut places = [0u32; 1];
-    let c = shelf::build(
+    let begun = answering::begin(
         &mut views,
         &mut bytes,
         &mut starts,
@@ -166,24 +110,37 @@ fn list(input: &[u8]) {
         &mut places,
         input,
     );
-    show(&views, &bytes, &starts, &lens, &nulls, c);
+    let c = begun.column;
+    let p = begun.place;
+    if !write_pieces(&views, &bytes, &starts, &lens, &nulls, c, p) {
+        if os::errno() != libc::EPIPE {
+            os::fail(b"shelflist: standard output");
+        }
+        return b'2';
+    }
+    if is_refusal(p) {
+        return b'1';
+    }
+    b'0'
 }
 
-fn answer(input: &[u8]) {
-    let bad = shelf::first_bad(input);
-    if bad != 0 {
-        say_refused(bad);
-        return;
+// The status to whoever asked for it.
+fn tell(status: u8) {
+    let mut word = [0u8; 16];
+    let n = os::arg(1, &mut word);
+    if order::same(&word[..n], b"--status") {
+        io::write_all(STATUS_FILENO, &[status]);
     }
-    list(input);
 }
 
 fn main() {
-    let mut input = [0u8; 16385];
-    let n = io::read_full(0, &mut input);
-    if 16384 < n {
-        say_refused(0);
+    let mut input = [0u8; MOST];
+    let got = read_all(&mut input);
+    if got.failed {
+        os::fail(b"shelflist: standard input");
+        tell(b'2');
         return;
     }
-    answer(&input[..n]);
+    let n = got.count;
+    tell(answer(&input[..n]));
 }

@@ -14,6 +14,13 @@ use column::Column;
 use column::Kind;
 use exports::Told;
 
+// A column by its five numbers.
+fn column_of(l: &[usize; 5]) -> Column
+    ensures { λ r. ⌜ r ≡ columnOf (now (l .entry)) ⌝ }
+{
+    exports::column_of(l)
+}
+
 fn kind_of(n: usize) -> Kind
     ensures { λ r. ⌜ r ≡ kindOf (eqb n 0) ⌝ }
 {
@@ -91,7 +98,7 @@ pub extern "C" fn tambuyeel_compact<'a>(
         starts,
         lens,
         nulls,
-        exports::column_of(column),
+        column_of(column),
         most,
         newviews,
         newbytes,

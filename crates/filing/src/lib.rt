@@ -57,7 +57,14 @@ pub fn put_or(table: &mut [Block], k: usize, b: Block)
 }
 
 // Whether a state fits what is lent, by the lengths, and by the count of the records.
-fn fits_with(s: State, views: usize, bytes: usize, count: usize, nulls: usize, places: usize) -> bool
+fn fits_with(
+    s: State,
+    views: usize,
+    bytes: usize,
+    count: usize,
+    nulls: usize,
+    places: usize,
+) -> bool
     ensures { λ r. ⌜ r ≡ fitsRooms s (roomOfRows (s .merging) views nulls places) (roomOfBlocks count count) (roomOfBytes bytes) ⌝ }
 {
     let merging = s.merging;
@@ -487,7 +494,15 @@ fn block_with(
         (r .placed .answer) (now (views .entry)) (now (bytes .exit)) (set (set t (r .at) (r .block)) (r .next) (r .whole)) (now (nulls .entry)) (now (places .entry))
         × (r .placed .block ≡ blockNumber (filed s (now (views .entry)) (now (bytes .entry)) t (now (nulls .entry)) (now (places .entry))) (now (x .entry)))) ⌝ }
 {
-    let w = why_block(s, views.len(), bytes.len(), count, nulls.len(), places.len(), x.len());
+    let w = why_block(
+        s,
+        views.len(),
+        bytes.len(),
+        count,
+        nulls.len(),
+        places.len(),
+        x.len(),
+    );
     if !bounds::is_accepted(w) {
         return Laid {
             placed: Placed {

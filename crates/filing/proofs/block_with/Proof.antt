@@ -35,11 +35,11 @@ close-requires c κs = let j = laid-room (c .before .before .before .before .bef
 
 lay-requires : tie.Need-lay-requires
 unfolding closed
-lay-requires c κs = let j = laid-room (c .before .before .before .before .before .before .before .before .before .before .before .before .args .s) (now (c .before .before .before .before .before .before .before .before .before .before .before .before .args .views)) (now (c .before .before .before .before .before .before .before .before .before .before .before .before .args .bytes)) (now (c .before .before .before .before .before .before .before .before .before .before .before .before .args .nulls)) (now (c .before .before .before .before .before .before .before .before .before .before .before .before .args .places)) (now (c .before .before .before .before .before .before .before .before .before .before .before .before .args .x)) (c .before .before .before .before .before .before .before .before .before .before .before .before .args .count) _ (c .before .before .before .before .before .before .why-block .ensures) (sym (c .before .before .before .before .before .is-accepted .ensures) ∙ not-false _ (c .before .before .before .before .if1 .left)) in  let b = ap (λ (z : State). z .blocks) (c .before .close .ensures) in let d = ap (λ (z : State). z .base) (c .before .close .ensures) in omega (arith, d, j .inside)
+lay-requires c κs = let j = laid-room (c .before .before .before .before .before .before .before .before .before .before .before .before .args .s) (now (c .before .before .before .before .before .before .before .before .before .before .before .before .args .views)) (now (c .before .before .before .before .before .before .before .before .before .before .before .before .args .bytes)) (now (c .before .before .before .before .before .before .before .before .before .before .before .before .args .nulls)) (now (c .before .before .before .before .before .before .before .before .before .before .before .before .args .places)) (now (c .before .before .before .before .before .before .before .before .before .before .before .before .args .x)) (c .before .before .before .before .before .before .before .before .before .before .before .before .args .count) _ (c .before .before .before .before .before .before .why-block .ensures) (sym (c .before .before .before .before .before .is-accepted .ensures) ∙ not-false _ (c .before .before .before .before .if1 .left)) in let b = ap (λ (z : State). z .blocks) (c .before .close .ensures) in let d = ap (λ (z : State). z .base) (c .before .close .ensures) in omega (arith, d, j .inside)
 
 block-more-requires : tie.Need-block-more-requires
 unfolding closed
-block-more-requires c κs = let j = laid-room (c .before .before .before .before .before .before .before .before .before .before .before .before .before .before .before .args .s) (now (c .before .before .before .before .before .before .before .before .before .before .before .before .before .before .before .args .views)) (now (c .before .before .before .before .before .before .before .before .before .before .before .before .before .before .before .args .bytes)) (now (c .before .before .before .before .before .before .before .before .before .before .before .before .before .before .before .args .nulls)) (now (c .before .before .before .before .before .before .before .before .before .before .before .before .before .before .before .args .places)) (now (c .before .before .before .before .before .before .before .before .before .before .before .before .before .before .before .args .x)) (c .before .before .before .before .before .before .before .before .before .before .before .before .before .before .before .args .count) _ (c .before .before .before .before .before .before .before .before .before .why-block .ensures) (sym (c .before .before .before .before .before .before .before .before .is-accepted .ensures) ∙ not-false _ (c .before .before .before .before .before .before .before .if1 .left)) in  let b = ap (λ (z : State). z .blocks) (c .before .before .before .before .close .ensures) in let d = ap (λ (z : State). z .base) (c .before .before .before .before .close .ensures) in (omega (arith, b, j .limit, block-limit-small), omega (arith, d, j .small, byte-limit-small))
+block-more-requires c κs = let j = laid-room (c .before .before .before .before .before .before .before .before .before .before .before .before .before .before .before .args .s) (now (c .before .before .before .before .before .before .before .before .before .before .before .before .before .before .before .args .views)) (now (c .before .before .before .before .before .before .before .before .before .before .before .before .before .before .before .args .bytes)) (now (c .before .before .before .before .before .before .before .before .before .before .before .before .before .before .before .args .nulls)) (now (c .before .before .before .before .before .before .before .before .before .before .before .before .before .before .before .args .places)) (now (c .before .before .before .before .before .before .before .before .before .before .before .before .before .before .before .args .x)) (c .before .before .before .before .before .before .before .before .before .before .before .before .before .before .before .args .count) _ (c .before .before .before .before .before .before .before .before .before .why-block .ensures) (sym (c .before .before .before .before .before .before .before .before .is-accepted .ensures) ∙ not-false _ (c .before .before .before .before .before .before .before .if1 .left)) in let b = ap (λ (z : State). z .blocks) (c .before .before .before .before .close .ensures) in let d = ap (λ (z : State). z .base) (c .before .before .before .before .close .ensures) in (omega (arith, b, j .limit, block-limit-small), omega (arith, d, j .small, byte-limit-small))
 
 same-length : tie.Need-same-length
 same-length c = search needs

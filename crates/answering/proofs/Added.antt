@@ -12,12 +12,12 @@ use Rattle.order.specs.Order.{same}
 use Rattle.order.specs.OrderLaws.{same-true}
 use Rattle.views.specs.View.{isShort}
 use Rattle.builder.specs.State.{Builder}
-use Rattle.promise.specs.Calls.{Call, why, put, Ran, none, more, Cell}
+use Rattle.promise.specs.Calls.{why, put, Ran, none, more, Cell}
 use Rattle.promise.proofs.Steps.{Inv}
 use Rattle.promise.proofs.Kept.{inv-put}
 use Rattle.shelf.specs.declared.Line.{Line}
 use Rattle.shelf.specs.declared.Line.the-variants.{Code, Null, Bad}
-use Rattle.shelf.specs.Lines.{lines, says, valueOf, isBad, firstBad, codeMark, nullMark}
+use Rattle.shelf.specs.Lines.{says, valueOf, isBad, firstBad, codeMark, nullMark}
 use Rattle.shelf.specs.Adding.{addedBy, added, addedAll}
 use Rattle.whole.specs.Answer.{rowOf, blockBytesIn}
 use Rattle.whole.specs.Sizes.{valueBytes}

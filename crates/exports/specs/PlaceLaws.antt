@@ -1,15 +1,15 @@
 -- The place of a row's value names the value's bytes, as many as it says, and lies in its buffer. Assumes nothing.
 use mathlib.Core.Path.{_≡_, refl, ap, _∙_}
-use mathlib.Core.List.{List, []}
-use Prim.Native.Nat.{ℕ, _+_, _*_, _≤_, _<_}
+use mathlib.Core.List.{List}
+use Prim.Native.Nat.{ℕ, _+_, _≤_, _<_}
 use native.Mathlib.Omega.{arith}
-use lib.ListN.{length, take, drop, length-drop}
+use lib.ListN.{length, drop, length-drop}
 use lib.Seq.{length-take-le}
 use Rattle.bounds.specs.Bounds.{row-limit-is, byteLimit, byte-limit-is, rowLimit}
 use Rattle.bounds.specs.Refusals.{isAccepted}
 use Rattle.bounds.specs.declared.Why.{Why}
 use Rattle.bounds.specs.declared.Why.the-variants.{Accepted, Refused}
-use Rattle.views.specs.View.{viewSize, lengthOf, blockOf, viewAt}
+use Rattle.views.specs.View.{blockOf, viewAt}
 use Rattle.column.specs.declared.Block.{Block}
 use Rattle.column.specs.declared.Column.{Column}
 use Rattle.column.specs.declared.Spot.{Spot}

@@ -1,7 +1,6 @@
 // The program's answer, written piece by piece into a lent buffer: what is written and what is left are the whole, piece after piece.
 ghost use mathlib.Core.Path.{_≡_};
-ghost use Prim.Native.Nat.{_≤_, _<_};
-ghost use lib.ListN.{length};
+ghost use Prim.Native.Nat.{_<_};
 ghost use Rattle.column.specs.Lent.{lent};
 ghost use Rattle.shelf.specs.Items.{itemCount, itemAt};
 ghost use Rattle.shelf.specs.declared.Item.the-variants as item;

@@ -1,7 +1,5 @@
 use Rattle.answering.proofs.Begins.{begins-long, begins-bad, begins-listed}
 use mathlib.Core.Path.{sym, _∙_}
-use denote.Ref.{now}
-use native.Mathlib.Omega.{arith}
 use borrow.Author.Needs.{needs}
 use Rattle.answering.proofs.begin.Statement.{statement}
 use Rattle.answering.proofs.begin.Tie as tie

@@ -1,8 +1,6 @@
 use Rattle.whole.specs.Answer.{numberOf}
 use Rattle.whole.specs.RestLaws.{holds-closing}
 use mathlib.Core.Path.{ap, _∙_}
-use denote.Ref.{now}
-use native.Mathlib.Omega.{arith}
 use borrow.Author.Needs.{needs}
 use Rattle.whole.proofs.closing_piece.Statement.{statement}
 use Rattle.whole.proofs.closing_piece.Tie as tie

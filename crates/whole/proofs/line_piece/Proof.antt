@@ -1,6 +1,5 @@
 use Rattle.whole.specs.RestLaws.{wrote-closing, wrote-gap}
 use mathlib.Core.Path.{sym, _∙_}
-use denote.Ref.{now}
 use native.Mathlib.Omega.{arith}
 use borrow.Author.Needs.{needs}
 use Rattle.whole.proofs.line_piece.Statement.{statement}

@@ -1,7 +1,6 @@
 use Rattle.whole.specs.Rest.{itemValue}
 use Rattle.whole.specs.RestLaws.{wrote-none, wrote-close, wrote-part}
 use mathlib.Core.Path.{ap, _∙_}
-use denote.Ref.{now}
 use native.Mathlib.Omega.{arith}
 use borrow.Author.Needs.{needs}
 use Rattle.whole.proofs.part_piece.Statement.{statement}

@@ -1,7 +1,6 @@
 use Rattle.whole.specs.Answer.{isValid}
 use Rattle.whole.specs.RestLaws.{count-most, wrote-open, wrote-null}
-use mathlib.Core.Path.{refl, ap}
-use denote.Ref.{now}
+use mathlib.Core.Path.{ap}
 use native.Mathlib.Omega.{arith}
 use borrow.Author.Needs.{needs}
 use Rattle.whole.proofs.row_piece.Statement.{statement}

@@ -1,6 +1,8 @@
 fn main() {
-    let lib = std::fs::canonicalize("../../target").expect("make the library first: ./library");
+    let lib = std::fs::canonicalize("../../target/native").expect("build the library first: bench/text/native builder_exports");
     println!("cargo:rustc-link-search=native={}", lib.display());
-    println!("cargo:rustc-link-lib=static=tambuyeel");
-    println!("cargo:rerun-if-changed=../../target/libtambuyeel.a");
+    for name in ["builder_exports", "building_batches"] {
+        println!("cargo:rustc-link-lib=static={name}");
+        println!("cargo:rerun-if-changed=../../target/native/lib{name}.a");
+    }
 }

@@ -21,7 +21,7 @@ part-result-end : tie.Need-part-result-end
 part-result-end c = search needs
 
 returns : tie.Need-returns
-returns c = rw (c .before .before .it .given .1) (c .value .ensures)
+returns c = rw (c .before .before .it .given .1) (c .value .ensures .0)
 
 returns-2 : tie.Need-returns-2
 returns-2 c = rw (c .before .before .it2 .given .1)

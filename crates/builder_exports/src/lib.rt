@@ -277,6 +277,27 @@ pub extern "C" fn tambuyeel_start(
     tell(a, state)
 }
 
+// A value is added n times: the one place where the work is done, so that it is compiled into it and the state stays out of memory.
+fn value_call(
+    state: &mut [usize; 11],
+    views: &mut [u8],
+    bytes: &mut [u8],
+    starts: &mut [usize],
+    lens: &mut [usize],
+    nulls: &mut [u8],
+    places: &mut [u32],
+    x: &[u8],
+    n: usize,
+) -> u64
+    ensures { λ r. ⌜ Exported (λ b. whyValues n b (now (x .entry))) (putValues n (now (x .entry))) (now (state .entry))
+        (now (views .entry)) (now (bytes .entry)) (now (starts .entry)) (now (lens .entry)) (now (nulls .entry)) (now (places .entry))
+        r (now (state .exit)) (now (views .exit)) (now (bytes .exit)) (now (starts .exit)) (now (lens .exit)) (now (nulls .exit)) (now (places .exit)) ⌝ }
+{
+    let s = state_of(state);
+    let a = values::append_values(s, views, bytes, starts, lens, nulls, places, x, n);
+    tell(a, state)
+}
+
 // A value is added.
 #[no_mangle]
 pub extern "C" fn tambuyeel_append_value(
@@ -293,9 +314,7 @@ pub extern "C" fn tambuyeel_append_value(
         (now (views .entry)) (now (bytes .entry)) (now (starts .entry)) (now (lens .entry)) (now (nulls .entry)) (now (places .entry))
         r (now (state .exit)) (now (views .exit)) (now (bytes .exit)) (now (starts .exit)) (now (lens .exit)) (now (nulls .exit)) (now (places .exit)) ⌝ }
 {
-    let s = state_of(state);
-    let a = values::append_value(s, views, bytes, starts, lens, nulls, places, x);
-    tell(a, state)
+    value_call(state, views, bytes, starts, lens, nulls, places, x, 1)
 }
 
 // A value is added n times.
@@ -315,9 +334,7 @@ pub extern "C" fn tambuyeel_append_values(
         (now (views .entry)) (now (bytes .entry)) (now (starts .entry)) (now (lens .entry)) (now (nulls .entry)) (now (places .entry))
         r (now (state .exit)) (now (views .exit)) (now (bytes .exit)) (now (starts .exit)) (now (lens .exit)) (now (nulls .exit)) (now (places .exit)) ⌝ }
 {
-    let s = state_of(state);
-    let a = values::append_values(s, views, bytes, starts, lens, nulls, places, x, n);
-    tell(a, state)
+    value_call(state, views, bytes, starts, lens, nulls, places, x, n)
 }
 
 // A null row is added.

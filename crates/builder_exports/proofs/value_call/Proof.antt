@@ -1,0 +1,50 @@
+-- `builder_exports::value_call` meets its contract. Assumes nothing.
+use Rattle.builder_exports.specs.NumberLaws.{exported}
+use borrow.Author.Needs.{needs}
+use Rattle.builder_exports.proofs.value_call.Statement.{statement}
+use Rattle.builder_exports.proofs.value_call.Tie as tie
+
+state-of-requires : tie.Need-state-of-requires
+state-of-requires c κs = search needs
+
+append-values-requires : tie.Need-append-values-requires
+append-values-requires c κs = search needs
+
+tell-requires : tie.Need-tell-requires
+tell-requires c κs = search needs
+
+same-length : tie.Need-same-length
+same-length c = search needs
+
+same-length-2 : tie.Need-same-length-2
+same-length-2 c = search needs
+
+same-length-3 : tie.Need-same-length-3
+same-length-3 c = search needs
+
+same-length-4 : tie.Need-same-length-4
+same-length-4 c = search needs
+
+same-length-5 : tie.Need-same-length-5
+same-length-5 c = search needs
+
+same-length-6 : tie.Need-same-length-6
+same-length-6 c = search needs
+
+returns : tie.Need-returns
+returns c = exported _ _ _ _ _ _ _ _ _ _ _ _ _ _ _ _ _ (c .before .before .before .before .before .before .before .before .before .before .before .before .before .before .before .before .before .before .before .before .before .state-of .ensures) (c .before .before .before .before .before .before .before .before .before .before .before .before .before .before .append-values .ensures) _ _ (c .tell .ensures .0) (c .tell .ensures .1)
+
+pub value-call-spec : {M : Type 1} → statement M
+value-call-spec =
+    tie.close
+    (tie.spec
+    state-of-requires
+    append-values-requires
+    tell-requires
+    same-length
+    same-length-2
+    same-length-3
+    same-length-4
+    same-length-5
+    same-length-6
+    returns)

@@ -68,7 +68,7 @@ module _ {M : Type 1} (𝓤 : URA M) (H : Heap 𝓤) (A : Atoms 𝓤) (mem : Mem
   abbrev pub why-get-fact : Why → Type 0
   why-get-fact z = z ≡ whyGet (filed s (now views) (now bytes) (now table) (now nulls) (now places)) r
 
-  pub why-get-says : (z : Why)  → why_get.clauses 𝓤 H A mem run (κ0, (κ1, (κ2, (κ3, tt)))) (s, (views, (bytes, (table, (nulls, (places, (r, tt))))))) .ensures tt z (s, (views, (bytes, (table, (nulls, (places, (r, tt))))))) ≡ fact 𝓤 (why-get-fact z)
+  pub why-get-says : (z : Why) → why_get.clauses 𝓤 H A mem run (κ0, (κ1, (κ2, (κ3, tt)))) (s, (views, (bytes, (table, (nulls, (places, (r, tt))))))) .ensures tt z (s, (views, (bytes, (table, (nulls, (places, (r, tt))))))) ≡ fact 𝓤 (why-get-fact z)
   why-get-says z = refl
 
   pub why-get-one : (z z′ : Why) → why-get-fact z → why-get-fact z′ → z ≡ z′
@@ -79,7 +79,7 @@ module _ {M : Type 1} (𝓤 : URA M) (H : Heap 𝓤) (A : Atoms 𝓤) (mem : Mem
   abbrev pub get-value-fact : RefT (List ℕ) → Type 0
   get-value-fact z = now z ≡ getValue (filed s (now views) (now bytes) (now table) (now nulls) (now places)) r
 
-  pub get-value-says : (z : RefT (List ℕ))  → get_value.clauses 𝓤 H A mem run (κ0, (κ1, (κ2, (κ3, tt)))) (s, (views, (bytes, (table, (nulls, (places, (r, tt))))))) .ensures tt z (s, (views, (bytes, (table, (nulls, (places, (r, tt))))))) ≡ fact 𝓤 (get-value-fact z)
+  pub get-value-says : (z : RefT (List ℕ)) → get_value.clauses 𝓤 H A mem run (κ0, (κ1, (κ2, (κ3, tt)))) (s, (views, (bytes, (table, (nulls, (places, (r, tt))))))) .ensures tt z (s, (views, (bytes, (table, (nulls, (places, (r, tt))))))) ≡ fact 𝓤 (get-value-fact z)
   get-value-says z = refl
 
   pub get-value-one : (z z′ : RefT (List ℕ)) → get-value-fact z → get-value-fact z′ → now z ≡ now z′

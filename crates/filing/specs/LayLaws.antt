@@ -1,8 +1,8 @@
 -- A block added over a table of records, from what its parts leave. Assumes nothing.
-use mathlib.Core.Path.{_≡_, refl, sym, ap, _∙_}
+use mathlib.Core.Path.{_≡_, refl, ap, _∙_}
 use mathlib.Core.Bool.{true, false, not}
 use mathlib.Core.List.{List}
-use Prim.Native.Nat.{ℕ, _+_, _≤_, _<_}
+use Prim.Native.Nat.{ℕ, _≤_, _<_}
 use native.Mathlib.Omega.{arith}
 use borrow.Author.Tests.{lt-ltb, le-ltb, leb-true}
 use lib.Dec.{leb, ltb}
@@ -14,10 +14,10 @@ use Rattle.bounds.specs.declared.Refusal.the-variants.{Fit, TooLong}
 use Rattle.bounds.specs.declared.Why.{Why}
 use Rattle.bounds.specs.declared.Why.the-variants.{Accepted, Refused}
 use Rattle.column.specs.declared.Block.{Block}
-use Rattle.column.specs.Lent.{block, tableOf, blockRoom, dataRoom}
+use Rattle.column.specs.Lent.{block, tableOf}
 use Rattle.column.specs.FitLaws.{and-left, and-right}
 use Rattle.builder.specs.declared.State.{State}
-use Rattle.builder.specs.State.{held, allBlocks, used, fitsRooms, fitsState, closed, complete, recorded}
+use Rattle.builder.specs.State.{held, allBlocks, used, fitsRooms, closed, complete, recorded}
 use Rattle.builder.specs.Rooms.{roomOfRows, roomOfBlocks, roomOfBytes}
 use Rattle.builder.specs.RoomLaws.{blocks-room-is, bytes-room-is, is-accepted}
 use Rattle.builder.specs.Others.{layBlock, whyRoom, whyBlock, putBlock, blockNumber}
@@ -73,12 +73,14 @@ module _ (s : State) (vs bs ms ps x : List ℕ) (n : ℕ) (w : Why) (ew : w ≡ 
       → Files (λ d. whyBlock d x) (putBlock x) s vs bs t ms ps (answer w s) vs bs (set (set t n b) n c) ms ps × (0 ≡ blockNumber (filed s vs bs t ms ps) x)
   laid-no h b c =
       over (λ t. Files (λ d. whyBlock d x) (putBlock x) s vs bs t ms ps (answer w s) vs bs (set (set t n b) n c) ms ps × (0 ≡ blockNumber (filed s vs bs t ms ps) x)) n (λ ss ns es en.
-        let e = verdict ss ns es en in
-        let d = does-not-block s vs bs ss ns ms ps x w e h in
-        let l = table-length n ss ns es en in
-        let same : set (tableOf ss ns) n b ≡ tableOf ss ns = set-none n b (tableOf ss ns) l in
-        (files-of (λ d. whyBlock d x) (putBlock x) s vs bs ss ns ms ps (set (set (tableOf ss ns) n b) n c) (d .0)
-        (ap (λ (z : List Block). set z n c) same ∙ set-none n c (tableOf ss ns) l ∙ table-no (λ d. whyBlock d x) (putBlock x) s vs bs ss ns ms ps w e h), d .1))
+      let e = verdict ss ns es en in
+      let d = does-not-block s vs bs ss ns ms ps x w e h in
+      let l = table-length n ss ns es en in
+      let same : set (tableOf ss ns) n b ≡ tableOf ss ns = set-none n b (tableOf ss ns) l in (
+        files-of (λ d. whyBlock d x) (putBlock x) s vs bs ss ns ms ps (set (set (tableOf ss ns) n b) n c) (d .0)
+            (ap (λ (z : List Block). set z n c) same ∙ set-none n c (tableOf ss ns) l ∙ table-no (λ d. whyBlock d x) (putBlock x) s vs bs ss ns ms ps w e h),
+        d .1,
+      ))
 
   pub laid-yes : (t : State) {u : State} {bs′ : List ℕ} (k : ℕ) (b : Block) → isAccepted w ≡ true → t ≡ closed s → u ≡ blockMore (length x) t → bs′ ≡ paste bs (t .base) x (length x)
       → ((z : List Block) → n ≡ length z → set z k b ≡ openTable s z) → (z : List Block) → n ≡ length z
@@ -87,9 +89,11 @@ module _ (s : State) (vs bs ms ps x : List ℕ) (n : ℕ) (w : Why) (ew : w ≡ 
   unfolding putBlock layBlock complete closed
   laid-yes t {u} {bs′} k b h et eu eb ek =
       over (λ z. Files (λ d. whyBlock d x) (putBlock x) s vs bs z ms ps (answer Accepted u) vs bs′ (set (set z k b) (t .blocks) (block (t .base) (length x))) ms ps × (t .blocks ≡ blockNumber (filed s vs bs z ms ps) x)) n (λ ss ns es en.
-        let e = verdict ss ns es en in
-        let d = does-block s vs bs ss ns ms ps x w t e h et refl refl eu eb refl refl in
-        let first : set (tableOf ss ns) k b ≡ recorded s (held s vs bs ss ns ms ps .lent) .table = ek (tableOf ss ns) (table-length n ss ns es en) ∙ recorded-table s vs bs ss ns ms in
-        (files-of (λ d. whyBlock d x) (putBlock x) s vs bs ss ns ms ps (set (set (tableOf ss ns) k b) (t .blocks) (block (t .base) (length x))) (d .0)
-        (table-yes (λ d. whyBlock d x) (putBlock x) s vs bs ss ns ms ps (set (set (tableOf ss ns) k b) (t .blocks) (block (t .base) (length x))) (is-accepted w (whyBlock (held s vs bs ss ns ms ps) x) e h)
-        (λ i. set (first i) (et i .blocks) (block (et i .base) (length x)))), d .1))
+      let e = verdict ss ns es en in
+      let d = does-block s vs bs ss ns ms ps x w t e h et refl refl eu eb refl refl in
+      let first : set (tableOf ss ns) k b ≡ recorded s (held s vs bs ss ns ms ps .lent) .table = ek (tableOf ss ns) (table-length n ss ns es en) ∙ recorded-table s vs bs ss ns ms in (
+        files-of (λ d. whyBlock d x) (putBlock x) s vs bs ss ns ms ps (set (set (tableOf ss ns) k b) (t .blocks) (block (t .base) (length x))) (d .0)
+            (table-yes (λ d. whyBlock d x) (putBlock x) s vs bs ss ns ms ps (set (set (tableOf ss ns) k b) (t .blocks) (block (t .base) (length x))) (is-accepted w (whyBlock (held s vs bs ss ns ms ps) x) e h)
+            (λ i. set (first i) (et i .blocks) (block (et i .base) (length x)))),
+        d .1,
+      ))

@@ -7,7 +7,7 @@ use native.Mathlib.Omega.{arith}
 use lib.ListN.{length, getD, set, length-set}
 use lib.Seq.{getD-set-same}
 use Rattle.basis.specs.Pick.{ifLt}
-use Rattle.bounds.specs.Refusals.{isAccepted, accepted-yes, accepted-no}
+use Rattle.bounds.specs.Refusals.{isAccepted, accepted-no}
 use Rattle.bounds.specs.declared.Refusal.the-variants.{Fit, Row, BadView}
 use Rattle.bounds.specs.declared.Why.{Why}
 use Rattle.bounds.specs.declared.Why.the-variants.{Accepted, Refused}
@@ -22,7 +22,7 @@ use Rattle.builder.specs.State.{held, allBlocks, fitsState, recorded}
 use Rattle.builder.specs.Rooms.{Ready}
 use Rattle.builder.specs.RoomLaws.{fits-gives, ready}
 use Rattle.builder.specs.Get.{whyGet, getValue}
-use Rattle.finishing.specs.GetLaws.{get-fit, get-late, get-bad, get-fine, value-no, value-yes}
+use Rattle.finishing.specs.GetLaws.{get-fit, get-late, get-bad, get-fine, value-yes}
 use Rattle.filing.specs.Files.{filed}
 use Rattle.filing.specs.FilesLaws.{over, blank, blank-length, fitsBy, fits-by, fitted}
 use Rattle.filing.specs.Rows.{Names, Sees, Reached}
@@ -88,12 +88,12 @@ module _ (s : State) (vs bs ms ps : List ℕ) (n r : ℕ) (b : Block) where
       pub why-bad : y ≡ false → (t : List Block) → n ≡ length t → Sees vs r b t → Refused (BadView r) ≡ whyGet (filed s vs bs t ms ps) r
       why-bad h t e g =
           over (λ t. Sees vs r b t → Refused (BadView r) ≡ whyGet (filed s vs bs t ms ps) r) n (λ ss ns es en g.
-            let a = at-hand ss ns es en g in get-bad s vs bs ss ns ms ps r (a .0) there (sym (ey ss ns (a .1) (a .2)) ∙ h)) t e g
+          let a = at-hand ss ns es en g in get-bad s vs bs ss ns ms ps r (a .0) there (sym (ey ss ns (a .1) (a .2)) ∙ h)) t e g
 
       pub why-fine : y ≡ true → (t : List Block) → n ≡ length t → Sees vs r b t → Accepted ≡ whyGet (filed s vs bs t ms ps) r
       why-fine h t e g =
           over (λ t. Sees vs r b t → Accepted ≡ whyGet (filed s vs bs t ms ps) r) n (λ ss ns es en g.
-            let a = at-hand ss ns es en g in get-fine s vs bs ss ns ms ps r (a .0) there (sym (ey ss ns (a .1) (a .2)) ∙ h)) t e g
+          let a = at-hand ss ns es en g in get-fine s vs bs ss ns ms ps r (a .0) there (sym (ey ss ns (a .1) (a .2)) ∙ h)) t e g
 
       pub reached : y ≡ true → Reached s vs bs r b
       reached h =
@@ -108,9 +108,9 @@ module _ (s : State) (vs bs ms ps : List ℕ) (n r : ℕ) (b : Block) where
           → x ≡ shown (blocksOf (recorded s (bare vs bs ss ns)) (allBlocks s)) (viewAt vs r)) → (t : List Block) → n ≡ length t → Sees vs r b t → x ≡ getValue (filed s vs bs t ms ps) r
       got-value h x ex t e g =
           over (λ t. Sees vs r b t → x ≡ getValue (filed s vs bs t ms ps) r) n (λ ss ns es en g.
-            let a = at-hand ss ns es en g in
-            let z = sym (ey ss ns (a .1) (a .2)) ∙ h in
-            value-yes s vs bs ss ns ms ps r Accepted x (get-fine s vs bs ss ns ms ps r (a .0) there z) refl (ex ss ns (a .1) (a .2) z)) t e g
+          let a = at-hand ss ns es en g in
+          let z = sym (ey ss ns (a .1) (a .2)) ∙ h in
+          value-yes s vs bs ss ns ms ps r Accepted x (get-fine s vs bs ss ns ms ps r (a .0) there z) refl (ex ss ns (a .1) (a .2) z)) t e g
 
   -- refused, the value is empty
   pub got-none : (w : Why) (x : List ℕ) → ((t : List Block) → n ≡ length t → Sees vs r b t → w ≡ whyGet (filed s vs bs t ms ps) r) → isAccepted w ≡ false → x ≡ []

@@ -3,20 +3,12 @@ use Rattle.builder.specs.State.{closed}
 use Rattle.builder.specs.declared.State.{State}
 use Rattle.bounds.specs.Bounds.{block-limit-small, byte-limit-small}
 use borrow.Author.Tests.{not-true, not-false}
-use mathlib.Core.Path.{refl, sym, ap, _∙_}
+use mathlib.Core.Path.{sym, ap, _∙_}
 use denote.Ref.{now}
 use native.Mathlib.Omega.{arith}
 use borrow.Author.Needs.{needs}
 use Rattle.filing.proofs.block_with.Statement.{statement}
 use Rattle.filing.proofs.block_with.Tie as tie
-use Rattle.filing.proofs.block_with.Reads as reads
-use Rattle.filing.proofs.block_with.Lts as lts
-use Rattle.appending.proofs.block_more.Reads as block-more-reads
-use Rattle.appending.proofs.close.Reads as close-reads
-use Rattle.bounds.proofs.is_accepted.Reads as is-accepted-reads
-use Rattle.builder.proofs.lay.Reads as lay-reads
-use Rattle.filing.proofs.open_record.Reads as open-record-reads
-use Rattle.filing.proofs.why_block.Reads as why-block-reads
 
 why-block-requires : tie.Need-why-block-requires
 why-block-requires c κs = search needs
@@ -35,11 +27,11 @@ close-requires c κs = let j = laid-room (c .before .before .before .before .bef
 
 lay-requires : tie.Need-lay-requires
 unfolding closed
-lay-requires c κs = let j = laid-room (c .before .before .before .before .before .before .before .before .before .before .before .before .args .s) (now (c .before .before .before .before .before .before .before .before .before .before .before .before .args .views)) (now (c .before .before .before .before .before .before .before .before .before .before .before .before .args .bytes)) (now (c .before .before .before .before .before .before .before .before .before .before .before .before .args .nulls)) (now (c .before .before .before .before .before .before .before .before .before .before .before .before .args .places)) (now (c .before .before .before .before .before .before .before .before .before .before .before .before .args .x)) (c .before .before .before .before .before .before .before .before .before .before .before .before .args .count) _ (c .before .before .before .before .before .before .why-block .ensures) (sym (c .before .before .before .before .before .is-accepted .ensures) ∙ not-false _ (c .before .before .before .before .if1 .left)) in  let b = ap (λ (z : State). z .blocks) (c .before .close .ensures) in let d = ap (λ (z : State). z .base) (c .before .close .ensures) in omega (arith, d, j .inside)
+lay-requires c κs = let j = laid-room (c .before .before .before .before .before .before .before .before .before .before .before .before .args .s) (now (c .before .before .before .before .before .before .before .before .before .before .before .before .args .views)) (now (c .before .before .before .before .before .before .before .before .before .before .before .before .args .bytes)) (now (c .before .before .before .before .before .before .before .before .before .before .before .before .args .nulls)) (now (c .before .before .before .before .before .before .before .before .before .before .before .before .args .places)) (now (c .before .before .before .before .before .before .before .before .before .before .before .before .args .x)) (c .before .before .before .before .before .before .before .before .before .before .before .before .args .count) _ (c .before .before .before .before .before .before .why-block .ensures) (sym (c .before .before .before .before .before .is-accepted .ensures) ∙ not-false _ (c .before .before .before .before .if1 .left)) in let b = ap (λ (z : State). z .blocks) (c .before .close .ensures) in let d = ap (λ (z : State). z .base) (c .before .close .ensures) in omega (arith, d, j .inside)
 
 block-more-requires : tie.Need-block-more-requires
 unfolding closed
-block-more-requires c κs = let j = laid-room (c .before .before .before .before .before .before .before .before .before .before .before .before .before .before .before .args .s) (now (c .before .before .before .before .before .before .before .before .before .before .before .before .before .before .before .args .views)) (now (c .before .before .before .before .before .before .before .before .before .before .before .before .before .before .before .args .bytes)) (now (c .before .before .before .before .before .before .before .before .before .before .before .before .before .before .before .args .nulls)) (now (c .before .before .before .before .before .before .before .before .before .before .before .before .before .before .before .args .places)) (now (c .before .before .before .before .before .before .before .before .before .before .before .before .before .before .before .args .x)) (c .before .before .before .before .before .before .before .before .before .before .before .before .before .before .before .args .count) _ (c .before .before .before .before .before .before .before .before .before .why-block .ensures) (sym (c .before .before .before .before .before .before .before .before .is-accepted .ensures) ∙ not-false _ (c .before .before .before .before .before .before .before .if1 .left)) in  let b = ap (λ (z : State). z .blocks) (c .before .before .before .before .close .ensures) in let d = ap (λ (z : State). z .base) (c .before .before .before .before .close .ensures) in (omega (arith, b, j .limit, block-limit-small), omega (arith, d, j .small, byte-limit-small))
+block-more-requires c κs = let j = laid-room (c .before .before .before .before .before .before .before .before .before .before .before .before .before .before .before .args .s) (now (c .before .before .before .before .before .before .before .before .before .before .before .before .before .before .before .args .views)) (now (c .before .before .before .before .before .before .before .before .before .before .before .before .before .before .before .args .bytes)) (now (c .before .before .before .before .before .before .before .before .before .before .before .before .before .before .before .args .nulls)) (now (c .before .before .before .before .before .before .before .before .before .before .before .before .before .before .before .args .places)) (now (c .before .before .before .before .before .before .before .before .before .before .before .before .before .before .before .args .x)) (c .before .before .before .before .before .before .before .before .before .before .before .before .before .before .before .args .count) _ (c .before .before .before .before .before .before .before .before .before .why-block .ensures) (sym (c .before .before .before .before .before .before .before .before .is-accepted .ensures) ∙ not-false _ (c .before .before .before .before .before .before .before .if1 .left)) in let b = ap (λ (z : State). z .blocks) (c .before .before .before .before .close .ensures) in let d = ap (λ (z : State). z .base) (c .before .before .before .before .close .ensures) in (omega (arith, b, j .limit, block-limit-small), omega (arith, d, j .small, byte-limit-small))
 
 same-length : tie.Need-same-length
 same-length c = search needs

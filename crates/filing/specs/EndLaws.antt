@@ -17,7 +17,7 @@ use Rattle.column.specs.declared.Column.{Column}
 use Rattle.column.specs.Lent.{tableOf}
 use Rattle.builder.specs.declared.State.{State}
 use Rattle.builder.specs.declared.Answer.{Answer}
-use Rattle.builder.specs.State.{Builder, held, fitsRooms, fitsState, recorded, rowed, addRow}
+use Rattle.builder.specs.State.{Builder, held, fitsRooms, fitsState, rowed, addRow}
 use Rattle.builder.specs.Rooms.{roomOfRows, roomOfBlocks, roomOfBytes}
 use Rattle.builder.specs.RoomLaws.{NullFine, null-is, null-fine, is-accepted}
 use Rattle.builder.specs.Get.{columnOf}

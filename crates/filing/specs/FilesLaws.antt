@@ -2,25 +2,24 @@
 use mathlib.Core.Path.{_≡_, refl, sym, ap, subst, _∙_}
 use mathlib.Core.Bool.{Bool, true, false}
 use mathlib.Core.List.{List, [], _∷_}
-use Prim.Native.Nat.{ℕ, zero, suc, _≤_, _<_}
+use Prim.Native.Nat.{ℕ, zero, suc}
 use native.Mathlib.Omega.{arith}
 use borrow.Author.Tests.{eq-eqb, ne-eqb}
 use lib.ListN.{length, set, replicate}
 use lib.Seq.{set-out}
-use Rattle.basis.specs.Pick.{pick}
 use Rattle.bounds.specs.Refusals.{isAccepted}
 use Rattle.bounds.specs.declared.Why.{Why}
 use Rattle.bounds.specs.declared.Why.the-variants.{Accepted, Refused}
 use Rattle.column.specs.declared.Block.{Block}
-use Rattle.column.specs.Lent.{buffers, block, tableOf, lent}
+use Rattle.column.specs.Lent.{block, tableOf, lent}
 use Rattle.builder.specs.declared.State.{State}
 use Rattle.builder.specs.declared.Answer.{Answer}
-use Rattle.builder.specs.State.{Builder, held, isOpen, fitsRooms, fitsState, recorded}
+use Rattle.builder.specs.State.{Builder, held, fitsRooms, fitsState, recorded}
 use Rattle.builder.specs.Rooms.{roomOfRows, roomOfBlocks, roomOfBytes}
 use Rattle.builder.specs.RoomLaws.{Fitted, fits-is, fits-gives}
 use Rattle.column.specs.FitLaws.{length-table}
 use Rattle.builder.specs.Does.{Does, left}
-use Rattle.filing.specs.Files.{Files, filed, openTable}
+use Rattle.filing.specs.Files.{Files, openTable}
 
 -- the starts and the lengths of a table
 unfoldable pub firsts : List Block → List ℕ

@@ -1,8 +1,8 @@
 -- A block added over a table of records, from what its parts leave. Assumes nothing.
-use mathlib.Core.Path.{_≡_, refl, sym, ap, _∙_}
+use mathlib.Core.Path.{_≡_, refl, ap, _∙_}
 use mathlib.Core.Bool.{true, false, not}
 use mathlib.Core.List.{List}
-use Prim.Native.Nat.{ℕ, _+_, _≤_, _<_}
+use Prim.Native.Nat.{ℕ, _≤_, _<_}
 use native.Mathlib.Omega.{arith}
 use borrow.Author.Tests.{lt-ltb, le-ltb, leb-true}
 use lib.Dec.{leb, ltb}
@@ -14,10 +14,10 @@ use Rattle.bounds.specs.declared.Refusal.the-variants.{Fit, TooLong}
 use Rattle.bounds.specs.declared.Why.{Why}
 use Rattle.bounds.specs.declared.Why.the-variants.{Accepted, Refused}
 use Rattle.column.specs.declared.Block.{Block}
-use Rattle.column.specs.Lent.{block, tableOf, blockRoom, dataRoom}
+use Rattle.column.specs.Lent.{block, tableOf}
 use Rattle.column.specs.FitLaws.{and-left, and-right}
 use Rattle.builder.specs.declared.State.{State}
-use Rattle.builder.specs.State.{held, allBlocks, used, fitsRooms, fitsState, closed, complete, recorded}
+use Rattle.builder.specs.State.{held, allBlocks, used, fitsRooms, closed, complete, recorded}
 use Rattle.builder.specs.Rooms.{roomOfRows, roomOfBlocks, roomOfBytes}
 use Rattle.builder.specs.RoomLaws.{blocks-room-is, bytes-room-is, is-accepted}
 use Rattle.builder.specs.Others.{layBlock, whyRoom, whyBlock, putBlock, blockNumber}

@@ -7,7 +7,7 @@ use native.Mathlib.Omega.{arith}
 use lib.ListN.{length, getD, set, length-set}
 use lib.Seq.{getD-set-same}
 use Rattle.basis.specs.Pick.{ifLt}
-use Rattle.bounds.specs.Refusals.{isAccepted, accepted-yes, accepted-no}
+use Rattle.bounds.specs.Refusals.{isAccepted, accepted-no}
 use Rattle.bounds.specs.declared.Refusal.the-variants.{Fit, Row, BadView}
 use Rattle.bounds.specs.declared.Why.{Why}
 use Rattle.bounds.specs.declared.Why.the-variants.{Accepted, Refused}
@@ -22,7 +22,7 @@ use Rattle.builder.specs.State.{held, allBlocks, fitsState, recorded}
 use Rattle.builder.specs.Rooms.{Ready}
 use Rattle.builder.specs.RoomLaws.{fits-gives, ready}
 use Rattle.builder.specs.Get.{whyGet, getValue}
-use Rattle.finishing.specs.GetLaws.{get-fit, get-late, get-bad, get-fine, value-no, value-yes}
+use Rattle.finishing.specs.GetLaws.{get-fit, get-late, get-bad, get-fine, value-yes}
 use Rattle.filing.specs.Files.{filed}
 use Rattle.filing.specs.FilesLaws.{over, blank, blank-length, fitsBy, fits-by, fitted}
 use Rattle.filing.specs.Rows.{Names, Sees, Reached}

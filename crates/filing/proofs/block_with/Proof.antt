@@ -3,20 +3,12 @@ use Rattle.builder.specs.State.{closed}
 use Rattle.builder.specs.declared.State.{State}
 use Rattle.bounds.specs.Bounds.{block-limit-small, byte-limit-small}
 use borrow.Author.Tests.{not-true, not-false}
-use mathlib.Core.Path.{refl, sym, ap, _∙_}
+use mathlib.Core.Path.{sym, ap, _∙_}
 use denote.Ref.{now}
 use native.Mathlib.Omega.{arith}
 use borrow.Author.Needs.{needs}
 use Rattle.filing.proofs.block_with.Statement.{statement}
 use Rattle.filing.proofs.block_with.Tie as tie
-use Rattle.filing.proofs.block_with.Reads as reads
-use Rattle.filing.proofs.block_with.Lts as lts
-use Rattle.appending.proofs.block_more.Reads as block-more-reads
-use Rattle.appending.proofs.close.Reads as close-reads
-use Rattle.bounds.proofs.is_accepted.Reads as is-accepted-reads
-use Rattle.builder.proofs.lay.Reads as lay-reads
-use Rattle.filing.proofs.open_record.Reads as open-record-reads
-use Rattle.filing.proofs.why_block.Reads as why-block-reads
 
 why-block-requires : tie.Need-why-block-requires
 why-block-requires c κs = search needs

@@ -8,12 +8,6 @@ use native.Mathlib.Omega.{arith}
 use borrow.Author.Needs.{needs}
 use Rattle.filing.proofs.copy_with.Statement.{statement}
 use Rattle.filing.proofs.copy_with.Tie as tie
-use Rattle.filing.proofs.copy_with.Reads as reads
-use Rattle.filing.proofs.copy_with.Lts as lts
-use Rattle.filing.proofs.fits_with.Reads as fits-with-reads
-use Rattle.filing.proofs.open_record.Reads as open-record-reads
-use Rattle.finishing.proofs.column_of.Reads as column-of-reads
-use Rattle.finishing.proofs.refused.Reads as refused-reads
 
 fits-with-requires : tie.Need-fits-with-requires
 fits-with-requires c κs = search needs

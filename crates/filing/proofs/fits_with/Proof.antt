@@ -1,17 +1,10 @@
 use Rattle.builder.specs.State.{fitsRooms}
 use Rattle.builder.specs.Rooms.{roomOfBlocks}
-use mathlib.Core.Path.{sym, _∙_}
-use denote.Ref.{now}
+use mathlib.Core.Path.{_∙_}
 use native.Mathlib.Omega.{arith}
 use borrow.Author.Needs.{needs}
 use Rattle.filing.proofs.fits_with.Statement.{statement}
 use Rattle.filing.proofs.fits_with.Tie as tie
-use Rattle.filing.proofs.fits_with.Reads as reads
-use Rattle.filing.proofs.fits_with.Lts as lts
-use Rattle.builder.proofs.blocks_room.Reads as blocks-room-reads
-use Rattle.builder.proofs.bytes_room.Reads as bytes-room-reads
-use Rattle.builder.proofs.rows_room.Reads as rows-room-reads
-use Rattle.builder.proofs.state_fits.Reads as state-fits-reads
 
 rows-room-requires : tie.Need-rows-room-requires
 rows-room-requires c κs = search needs

@@ -8,16 +8,6 @@ use native.Mathlib.Omega.{arith}
 use borrow.Author.Needs.{needs}
 use Rattle.filing.proofs.null_with.Statement.{statement}
 use Rattle.filing.proofs.null_with.Tie as tie
-use Rattle.filing.proofs.null_with.Reads as reads
-use Rattle.filing.proofs.null_with.Lts as lts
-use Rattle.bounds.proofs.is_accepted.Reads as is-accepted-reads
-use Rattle.builder.proofs.blocks_room.Reads as blocks-room-reads
-use Rattle.builder.proofs.bytes_room.Reads as bytes-room-reads
-use Rattle.builder.proofs.row_more.Reads as row-more-reads
-use Rattle.builder.proofs.rows_room.Reads as rows-room-reads
-use Rattle.null_bits.proofs.put_bit.Reads as put-bit-reads
-use Rattle.values.proofs.why_null.Reads as why-null-reads
-use Rattle.views.proofs.zero_view.Reads as zero-view-reads
 
 rows-room-requires : tie.Need-rows-room-requires
 rows-room-requires c κs = search needs

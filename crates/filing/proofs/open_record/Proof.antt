@@ -1,11 +1,6 @@
 use Rattle.filing.specs.FilesLaws.{open-none, open-some}
-use denote.Ref.{now}
-use native.Mathlib.Omega.{arith}
-use borrow.Author.Needs.{needs}
 use Rattle.filing.proofs.open_record.Statement.{statement}
 use Rattle.filing.proofs.open_record.Tie as tie
-use Rattle.filing.proofs.open_record.Reads as reads
-use Rattle.filing.proofs.open_record.Lts as lts
 
 returns : tie.Need-returns
 returns c = λ t e. open-none _ t _ _ (c .if1 .taken) e

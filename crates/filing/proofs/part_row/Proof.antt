@@ -2,19 +2,12 @@ use Rattle.basis.specs.Pick.{part-is}
 use Rattle.column.specs.ReachLaws.{shown-short-at}
 use Rattle.filing.specs.RowLaws.{or-start}
 use Rattle.finishing.specs.GetLaws.{row-start, row-part}
-use Rattle.bounds.specs.Bounds.{block-limit-small, byte-limit-small}
-use mathlib.Core.Path.{refl, sym, ap, _∙_}
-use denote.Ref.{now}
+use Rattle.bounds.specs.Bounds.{byte-limit-small}
+use mathlib.Core.Path.{refl, _∙_}
 use native.Mathlib.Omega.{arith}
 use borrow.Author.Needs.{needs}
 use Rattle.filing.proofs.part_row.Statement.{statement}
 use Rattle.filing.proofs.part_row.Tie as tie
-use Rattle.filing.proofs.part_row.Reads as reads
-use Rattle.filing.proofs.part_row.Lts as lts
-use Rattle.filing.proofs.record_or.Reads as record-or-reads
-use Rattle.views.proofs.view_block.Reads as view-block-reads
-use Rattle.views.proofs.view_len.Reads as view-len-reads
-use Rattle.views.proofs.view_offset.Reads as view-offset-reads
 
 view-len-requires : tie.Need-view-len-requires
 view-len-requires c κs = search needs

@@ -1,21 +1,11 @@
 use Rattle.filing.specs.RowLaws.{or-start, or-size}
 use Rattle.finishing.specs.GetLaws.{row-short, row-past, row-outside, row-last}
-use Rattle.bounds.specs.Bounds.{block-limit-small, byte-limit-small}
+use Rattle.bounds.specs.Bounds.{block-limit-small}
 use borrow.Author.Tests.{not-true, not-false}
-use mathlib.Core.Path.{refl, sym, ap, _∙_}
-use denote.Ref.{now}
 use native.Mathlib.Omega.{arith}
 use borrow.Author.Needs.{needs}
 use Rattle.filing.proofs.reach_row.Statement.{statement}
 use Rattle.filing.proofs.reach_row.Tie as tie
-use Rattle.filing.proofs.reach_row.Reads as reads
-use Rattle.filing.proofs.reach_row.Lts as lts
-use Rattle.builder.proofs.all_blocks.Reads as all-blocks-reads
-use Rattle.column.proofs.in_data.Reads as in-data-reads
-use Rattle.filing.proofs.record_or.Reads as record-or-reads
-use Rattle.views.proofs.view_block.Reads as view-block-reads
-use Rattle.views.proofs.view_len.Reads as view-len-reads
-use Rattle.views.proofs.view_offset.Reads as view-offset-reads
 
 view-len-requires : tie.Need-view-len-requires
 view-len-requires c κs = search needs

@@ -1,12 +1,7 @@
 use Rattle.basis.specs.Pick.{lt-yes, lt-no}
-use mathlib.Core.Path.{refl, sym, ap, _∙_}
-use denote.Ref.{now}
-use native.Mathlib.Omega.{arith}
-use borrow.Author.Needs.{needs}
+use mathlib.Core.Path.{refl}
 use Rattle.filing.proofs.record_or.Statement.{statement}
 use Rattle.filing.proofs.record_or.Tie as tie
-use Rattle.filing.proofs.record_or.Reads as reads
-use Rattle.filing.proofs.record_or.Lts as lts
 
 returns : tie.Need-returns
 returns c = (lt-yes _ _ _ _ _ (c .if1 .taken) refl, lt-yes _ _ _ _ _ (c .if1 .taken) refl)

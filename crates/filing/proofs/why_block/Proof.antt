@@ -1,18 +1,11 @@
 use Rattle.bounds.specs.Bounds.{byte-limit-is, block-limit-small, byte-limit-small}
 use Rattle.filing.specs.LayLaws.{block-fit, block-long, block-room, fits-small}
 use borrow.Author.Tests.{not-true, not-false}
-use mathlib.Core.Path.{refl, sym, ap, _∙_}
-use denote.Ref.{now}
+use mathlib.Core.Path.{sym, _∙_}
 use native.Mathlib.Omega.{arith}
 use borrow.Author.Needs.{needs}
 use Rattle.filing.proofs.why_block.Statement.{statement}
 use Rattle.filing.proofs.why_block.Tie as tie
-use Rattle.filing.proofs.why_block.Reads as reads
-use Rattle.filing.proofs.why_block.Lts as lts
-use Rattle.appending.proofs.why_room.Reads as why-room-reads
-use Rattle.builder.proofs.blocks_room.Reads as blocks-room-reads
-use Rattle.builder.proofs.bytes_room.Reads as bytes-room-reads
-use Rattle.filing.proofs.fits_with.Reads as fits-with-reads
 
 fits-with-requires : tie.Need-fits-with-requires
 fits-with-requires c κs = search needs

@@ -1,16 +1,11 @@
 use Rattle.filing.specs.FilesLaws.{fitted}
 use Rattle.filing.specs.RowLaws.{why-fit, why-late, why-bad, why-fine}
 use borrow.Author.Tests.{not-true, not-false}
-use mathlib.Core.Path.{refl, sym, ap, _∙_}
+use mathlib.Core.Path.{sym, _∙_}
 use denote.Ref.{now}
-use native.Mathlib.Omega.{arith}
 use borrow.Author.Needs.{needs}
 use Rattle.filing.proofs.why_with.Statement.{statement}
 use Rattle.filing.proofs.why_with.Tie as tie
-use Rattle.filing.proofs.why_with.Reads as reads
-use Rattle.filing.proofs.why_with.Lts as lts
-use Rattle.filing.proofs.fits_with.Reads as fits-with-reads
-use Rattle.filing.proofs.reach_row.Reads as reach-row-reads
 
 fits-with-requires : tie.Need-fits-with-requires
 fits-with-requires c κs = search needs

@@ -1,0 +1,44 @@
+use Rattle.filing.specs.QuestLaws.{begin-off, begin-none, begin-on}
+use native.Mathlib.Nat.{mod-lt}
+use lib.ListN.{length}
+use Prim.Native.Nat.{ℕ, _%_}
+use borrow.Author.Tests.{not-true, not-false}
+use mathlib.Core.Path.{sym, ap, _∙_}
+use denote.Ref.{now}
+use native.Mathlib.Omega.{arith}
+use borrow.Author.Needs.{needs}
+use Rattle.filing.proofs.begin.Statement.{statement}
+use Rattle.filing.proofs.begin.Tie as tie
+
+returns : tie.Need-returns
+returns c = (λ hit l. absurd (omega (arith, l)), λ h. absurd (omega arith))
+
+does-merge-requires : tie.Need-does-merge-requires
+does-merge-requires c κs = search needs
+
+returns-2 : tie.Need-returns-2
+returns-2 c = (λ hit l. begin-off (now (c .before .before .before .before .before .args .places)) hit (c .before .before .before .before .before .args .s) (now (c .before .before .before .before .before .args .x)) _ (c .before .does-merge .ensures) (not-true _ (c .if2 .taken)), λ h. absurd (omega arith))
+
+returns-3 : tie.Need-returns-3
+returns-3 c = (λ hit l. begin-none (now (c .before .before .before .before .before .before .args .places)) hit (c .before .before .before .before .before .before .args .s) (now (c .before .before .before .before .before .before .args .x)) _ (c .before .before .does-merge .ensures) (not-false _ (c .before .if2 .left)) (c .if3 .taken), λ h. absurd (omega arith))
+
+hash-requires : tie.Need-hash-requires
+hash-requires c κs = omega arith
+
+rem-p : tie.Need-rem-p
+rem-p c = search needs
+
+returns-4 : tie.Need-returns-4
+returns-4 c = (λ hit l. begin-on (now (c .before .before .before .before .before .before .before .args .places)) hit (c .before .before .before .before .before .before .before .args .s) (now (c .before .before .before .before .before .before .before .args .x)) _ _ (c .before .before .before .does-merge .ensures) (not-false _ (c .before .before .if2 .left)) (ap (λ (z : ℕ). z % length (now (c .before .before .before .before .before .before .before .args .places))) (c .hash .ensures)), λ h. mod-lt _ (omega (arith, c .before .if3 .left)))
+
+pub begin-spec : {M : Type 1} → statement M
+begin-spec =
+    tie.close
+    (tie.spec
+    returns
+    does-merge-requires
+    returns-2
+    returns-3
+    hash-requires
+    rem-p
+    returns-4)

@@ -5,9 +5,7 @@ use mathlib.Core.List.{List, []}
 use Prim.Native.Nat.{ℕ, zero, suc, _+_, _-_, _*_, _%_, _≤_, _<_}
 use native.Mathlib.Omega.{arith}
 use borrow.Author.Tests.{eq-eqb, ne-eqb}
-use lib.Dec.{eqb}
 use lib.ListN.{length, getD}
-use Rattle.basis.specs.Pick.{pick}
 use Rattle.bounds.specs.Bounds.{blockLimit}
 use Rattle.hash.specs.Hash.{hashOf}
 use Rattle.views.specs.View.{viewAt, blockOf}

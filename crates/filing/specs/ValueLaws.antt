@@ -8,7 +8,6 @@ use lib.Dec.{eqb}
 use lib.ListN.{length, set}
 use lib.Seq.{paste}
 use Rattle.basis.specs.Pick.{pick}
-use Rattle.bounds.specs.Bounds.{byteLimit}
 use Rattle.bounds.specs.Refusals.{refuse, isAccepted, ifAccepted}
 use Rattle.bounds.specs.declared.Refusal.the-variants.{Fit}
 use Rattle.bounds.specs.declared.Why.{Why}
@@ -22,10 +21,10 @@ use Rattle.column.specs.declared.Block.{Block}
 use Rattle.column.specs.Lent.{tableOf, lent}
 use Rattle.builder.specs.declared.State.{State}
 use Rattle.builder.specs.declared.Answer.{Answer}
-use Rattle.builder.specs.State.{Builder, held, allBlocks, used, rowsRoom, fitsRooms, fitsState, recorded, fitsOpen, roomed, laid, rowed, addRow}
-use Rattle.builder.specs.Rooms.{roomOfRows, roomOfBlocks, roomOfBytes, showsRow}
-use Rattle.builder.specs.RoomLaws.{Judged, Roomy, first-is, firstOf, value-no, value-none, value-on, judged, fits-gives, room-gives, room-many, is-accepted}
-use Rattle.builder.specs.Values.{found, foundBy, whyRow, whyLay, whyStore, whyValues, putValue, putValues}
+use Rattle.builder.specs.State.{Builder, held, rowsRoom, fitsRooms, fitsState, recorded, fitsOpen, roomed, laid, rowed, addRow}
+use Rattle.builder.specs.Rooms.{roomOfRows, roomOfBlocks, roomOfBytes}
+use Rattle.builder.specs.RoomLaws.{Judged, first-is, firstOf, value-no, value-none, value-on, judged, fits-gives, is-accepted}
+use Rattle.builder.specs.Values.{found, whyRow, whyLay, whyStore, whyValues, putValue, putValues}
 use Rattle.builder.specs.PutLaws.{found-is, row-lt, free-lt, store-short, put-short, store-row, put-row, put-lay}
 use Rattle.builder.specs.CallLaws.{does-short, does-row, lay-is, does-lay, put-none, put-many, put-rows}
 use Rattle.builder.specs.TimesLaws.{putCopies, rowedBy, add-rows}
@@ -33,7 +32,7 @@ use Rattle.builder.specs.Does.{answer, left}
 use Rattle.builder.specs.DoesLaws.{starts-same, lens-same, does-no, does-put}
 use Rattle.filing.specs.Files.{Files, filed, openTable}
 use Rattle.filing.specs.Quests.{Sound, Searched}
-use Rattle.filing.specs.FilesLaws.{over, blank, blank-length, blocks-room, files-of, table-no, table-yes, set-none, recorded-table, fitsBy, fits-by, fitted, table-length}
+use Rattle.filing.specs.FilesLaws.{over, blank, blank-length, blocks-room, files-of, table-no, table-yes, set-none, recorded-table, fits-by, table-length}
 
 -- the record that making room writes
 pub room-keeps : (s : State) (n m : ℕ) (b : Block) (c : Bool) → c ≡ fitsOpen s m → c ≡ true → (t : List Block) → n ≡ length t → set t n b ≡ pick (fitsOpen s m) t (openTable s t)

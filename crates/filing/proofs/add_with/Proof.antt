@@ -1,10 +1,10 @@
 use native.Mathlib.Numerals.{add-one}
 use Rattle.builder.specs.declared.State.{State}
 use Rattle.filing.specs.ValueLaws.{files-short}
-use Rattle.builder.specs.RoomLaws.{fits-gives, room-gives}
-use Rattle.filing.specs.FilesLaws.{blank, blank-length}
-use Rattle.bounds.specs.Bounds.{row-limit-small, block-limit-small, byte-limit-small}
-use mathlib.Core.Path.{refl, sym, ap, subst, _∙_}
+use Rattle.builder.specs.RoomLaws.{room-gives}
+use Rattle.filing.specs.FilesLaws.{blank}
+use Rattle.bounds.specs.Bounds.{row-limit-small}
+use mathlib.Core.Path.{sym, ap, _∙_}
 use denote.Ref.{now}
 use native.Mathlib.Omega.{arith}
 use borrow.Author.Needs.{needs}

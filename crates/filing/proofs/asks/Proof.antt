@@ -1,5 +1,3 @@
-use mathlib.Core.Path.{refl, sym, ap, subst, _∙_}
-use denote.Ref.{now}
 use native.Mathlib.Omega.{arith}
 use borrow.Author.Needs.{needs}
 use Rattle.filing.proofs.asks.Statement.{statement}

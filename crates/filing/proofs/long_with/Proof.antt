@@ -7,12 +7,12 @@ use Rattle.builder.specs.declared.State.{State}
 use mathlib.Core.Bool.{true≢false}
 use Rattle.filing.specs.ValueLaws.{files-row, files-full, files-lay}
 use Rattle.builder.specs.RoomLaws.{fits-gives, room-gives}
-use Rattle.filing.specs.FilesLaws.{blank, blank-length}
+use Rattle.filing.specs.FilesLaws.{blank}
 use Rattle.bounds.specs.Bounds.{row-limit-small, block-limit-small, byte-limit-small}
 use lib.ListN.{length}
 use Prim.Native.Nat.{suc}
 use borrow.Author.Tests.{not-true, not-false}
-use mathlib.Core.Path.{refl, sym, ap, subst, _∙_}
+use mathlib.Core.Path.{sym, ap, _∙_}
 use denote.Ref.{now}
 use native.Mathlib.Omega.{arith}
 use borrow.Author.Needs.{needs}

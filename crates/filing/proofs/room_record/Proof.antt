@@ -1,7 +1,4 @@
 use Rattle.filing.specs.ValueLaws.{room-keeps, room-opens}
-use mathlib.Core.Path.{refl, sym, ap, subst, _∙_}
-use denote.Ref.{now}
-use native.Mathlib.Omega.{arith}
 use borrow.Author.Needs.{needs}
 use Rattle.filing.proofs.room_record.Statement.{statement}
 use Rattle.filing.proofs.room_record.Tie as tie

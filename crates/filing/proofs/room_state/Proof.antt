@@ -1,8 +1,6 @@
 use Rattle.builder.specs.StepLaws.{pick-yes, pick-no}
 use Rattle.builder.specs.State.{roomed}
-use mathlib.Core.Path.{refl, sym, ap, subst, _∙_}
-use denote.Ref.{now}
-use native.Mathlib.Omega.{arith}
+use mathlib.Core.Path.{refl}
 use borrow.Author.Needs.{needs}
 use Rattle.filing.proofs.room_state.Statement.{statement}
 use Rattle.filing.proofs.room_state.Tie as tie

@@ -4,8 +4,7 @@ use Rattle.builder.specs.RoomLaws.{all-bounds}
 use Rattle.column.specs.FitLaws.{in-data-gives}
 use Rattle.bounds.specs.Bounds.{block-limit-is, block-limit-small, byte-limit-small}
 use borrow.Author.Tests.{not-true, not-false}
-use mathlib.Core.Path.{refl, sym, ap, subst, _∙_}
-use denote.Ref.{now}
+use mathlib.Core.Path.{sym, _∙_}
 use native.Mathlib.Omega.{arith}
 use borrow.Author.Needs.{needs}
 use Rattle.filing.proofs.shows_with.Statement.{statement}

@@ -1,7 +1,4 @@
 use Rattle.filing.specs.QuestLaws.{sound-row, sound-late, sound-free, sound-far, sound-none}
-use mathlib.Core.Path.{refl, sym, ap, subst, _∙_}
-use denote.Ref.{now}
-use native.Mathlib.Omega.{arith}
 use borrow.Author.Needs.{needs}
 use Rattle.filing.proofs.sound.Statement.{statement}
 use Rattle.filing.proofs.sound.Tie as tie

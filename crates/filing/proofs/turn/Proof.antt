@@ -1,5 +1,5 @@
 use Rattle.filing.specs.QuestLaws.{rest-empty, rest-hit, rest-next}
-use mathlib.Core.Path.{refl, sym, ap, subst, _∙_}
+use mathlib.Core.Path.{sym, _∙_}
 use denote.Ref.{now}
 use native.Mathlib.Omega.{arith}
 use borrow.Author.Needs.{needs}

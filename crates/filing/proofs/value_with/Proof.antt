@@ -1,10 +1,10 @@
 use Rattle.builder.specs.Rooms.{roomOfBlocks}
 use Rattle.filing.specs.ValueLaws.{times-no, times-none, times-judged, times-on, sound-found, files-not, files-many}
 use Rattle.builder.specs.RoomLaws.{room-many}
-use Rattle.filing.specs.FilesLaws.{blank, blank-length}
-use Rattle.bounds.specs.Bounds.{row-limit-small, block-limit-small, byte-limit-small}
+use Rattle.filing.specs.FilesLaws.{blank}
+use Rattle.bounds.specs.Bounds.{row-limit-small}
 use borrow.Author.Tests.{not-true, not-false}
-use mathlib.Core.Path.{refl, sym, ap, subst, _∙_}
+use mathlib.Core.Path.{sym, _∙_}
 use denote.Ref.{now}
 use native.Mathlib.Omega.{arith}
 use borrow.Author.Needs.{needs}

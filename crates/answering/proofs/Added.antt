@@ -12,7 +12,7 @@ use Rattle.order.specs.Order.{same}
 use Rattle.order.specs.OrderLaws.{same-true}
 use Rattle.views.specs.View.{isShort}
 use Rattle.builder.specs.State.{Builder}
-use Rattle.promise.specs.Calls.{Call, why, put, Ran, none, more, Cell}
+use Rattle.promise.specs.Calls.{why, put, Ran, none, more, Cell}
 use Rattle.promise.proofs.Steps.{Inv}
 use Rattle.promise.proofs.Kept.{inv-put}
 use Rattle.shelf.specs.declared.Line.{Line}

@@ -1,20 +1,17 @@
 -- The three ways in which an answer begins. Assumes nothing.
-use mathlib.Core.Path.{_≡_, refl, sym, ap, _∙_}
-use mathlib.Core.Bool.{Bool, true, false, _&&_}
+use mathlib.Core.Path.{_≡_, _∙_}
 use mathlib.Core.List.{List}
 use Prim.Native.Nat.{ℕ, _≤_, _<_}
 use borrow.Author.Tests.{le-leb, lt-leb, eq-eqb, ne-eqb}
 use lib.ListN.{length}
-use Rattle.basis.specs.Pick.{pick}
 use Rattle.column.specs.declared.Column.{Column}
-use Rattle.column.specs.Lent.{Lent, lent}
+use Rattle.column.specs.Lent.{lent}
 use Rattle.shelf.specs.Lines.{lines, firstBad}
 use Rattle.shelf.specs.Adding.{built, shelfLent, shelfColumn}
-use Rattle.whole.specs.declared.Place.the-variants.{Refused, Opening}
+use Rattle.whole.specs.declared.Place.the-variants.{Opening}
 use Rattle.whole.specs.Answer.{answer, listedColumn}
 use Rattle.whole.specs.Pieces.{answered-size, answered-bad}
-use Rattle.answering.specs.declared.Begun.{Begun}
-use Rattle.answering.specs.Listed.{Enough, Good}
+use Rattle.answering.specs.Listed.{Enough}
 use Rattle.answering.specs.Begins.{refusedAt, accepted, refusal, Begins}
 use Rattle.answering.proofs.Listed.{listed}
 

@@ -6,18 +6,16 @@ use Prim.Native.Nat.{ℕ, suc, _+_, _≤_}
 use native.Mathlib.Nat.{zero-add}
 use native.Mathlib.Omega.{arith}
 use lib.Dec.{eqb}
-use lib.ListN.{length}
 use Rattle.basis.specs.Pick.{pick}
-use Rattle.bounds.specs.Bounds.{rowLimit, blockLimit, byteLimit, row-limit-is, block-limit-is, byte-limit-is}
+use Rattle.bounds.specs.Bounds.{row-limit-is, block-limit-is, byte-limit-is}
 use Rattle.bounds.specs.Refusals.{refuse, ifAccepted}
 use Rattle.bounds.specs.declared.Why.{Why}
 use Rattle.bounds.specs.declared.Why.the-variants.{Accepted}
-use Rattle.column.specs.declared.Column.{Column}
-use Rattle.column.specs.Lent.{Lent, lent, rowRoom, blockRoom, dataRoom}
+use Rattle.column.specs.Lent.{lent, rowRoom, blockRoom, dataRoom}
 use Rattle.column.specs.FitLaws.{length-table}
-use Rattle.builder.specs.State.{Builder, rowsRoom, allBlocks, isOpen}
+use Rattle.builder.specs.State.{Builder, rowsRoom, allBlocks}
 use Rattle.builder.specs.Get.{columnOf}
-use Rattle.builder.specs.Start.{whyStart, startState, cleared, startPlaces, start}
+use Rattle.builder.specs.Start.{whyStart, startState, startPlaces, start}
 use Rattle.builder.specs.Finish.{whyFinish, finished, finishColumn}
 use Rattle.promise.specs.Calls.{put, Cell, after, rowsAfter, Ran}
 use Rattle.promise.specs.Kept.{Filed, done}
@@ -28,7 +26,7 @@ use Rattle.shelf.specs.declared.Line.{Line}
 use Rattle.shelf.specs.declared.Line.the-variants.{Code, Null, Bad}
 use Rattle.shelf.specs.Lines.{lines, says, valueOf, isBad, firstBad}
 use Rattle.shelf.specs.Adding.{shelfSettings, addedAll, built, shelfLent, shelfColumn}
-use Rattle.whole.specs.Answer.{Row, row, rowOf, isCode, nullsIn, bytesIn, blockBytesIn, blocksIn, answer, listedColumn}
+use Rattle.whole.specs.Answer.{row, rowOf, isCode, nullsIn, bytesIn, blockBytesIn, blocksIn}
 use Rattle.whole.specs.Pieces.{Shows, answered}
 use Rattle.whole.specs.Sizes.{rooms}
 use Rattle.answering.specs.Rows.{callFor, cellFor, callOf, cellOf}

@@ -1,14 +1,15 @@
--- The builder's numbers while lines are added: at most one block, open and from 0 on, in which there is room for all that can come. So no call is refused. Assumes nothing.
+-- The builder's numbers while lines are added: at most one block, open and from 0 on, in which there is room for all that can come.
+-- So no call is refused. Assumes nothing.
 use mathlib.Core.Path.{_≡_, refl, sym, ap, _∙_, subst}
-use mathlib.Core.Bool.{Bool, true, false, not, _&&_}
+use mathlib.Core.Bool.{Bool, true, false, not}
 use mathlib.Core.Logic.{by-cases}
-use mathlib.Core.List.{List, [], _∷_}
-use Prim.Native.Nat.{ℕ, zero, suc, _+_, _^_, _≤_, _<_, max}
+use mathlib.Core.List.{List, []}
+use Prim.Native.Nat.{ℕ, _+_, _^_, _≤_, _<_}
 use native.Mathlib.Nat.{add-zero}
 use native.Mathlib.Decide.{ℕ-discrete}
 use native.Mathlib.Omega.{arith}
-use borrow.Author.Tests.{leb-true, leb-false, le-leb, lt-leb, le-ltb, ne-eqb}
-use lib.Dec.{leb, ltb}
+use borrow.Author.Tests.{leb-false, le-leb, lt-leb, le-ltb, ne-eqb}
+use lib.Dec.{ltb}
 use lib.ListN.{length}
 use Rattle.basis.specs.Pick.{pick}
 use Rattle.bounds.specs.Bounds.{byteLimit, byte-limit-is}
@@ -16,7 +17,7 @@ use Rattle.bounds.specs.Refusals.{refuse, refuse-no}
 use Rattle.bounds.specs.declared.Why.the-variants.{Accepted}
 use Rattle.growth.specs.Growing.{startSize, largestSize, nextSize, sizeOf}
 use Rattle.growth.specs.declared.Growth.the-variants.{Doubling}
-use Rattle.views.specs.View.{shortMost, isShort, shortView, longView, zeroView}
+use Rattle.views.specs.View.{shortMost, isShort, shortView, zeroView}
 use Rattle.merging.specs.declared.Found.the-variants.{Full}
 use Rattle.merging.specs.Table.{isRow}
 use Rattle.column.specs.declared.Kind.the-variants.{Binary}
@@ -26,7 +27,7 @@ use Rattle.builder.specs.declared.Merging.the-variants.{Off}
 use Rattle.builder.specs.State.{Builder, rowsRoom, isOpen, allBlocks, used, fitsState, closed, complete, fitsOpen, sized, makeRoom, lay, addRow, addRows}
 use Rattle.builder.specs.Values.{foundBy, found, blockFor, whyLay, whyStore, whyRow, whyValues, store, putFound, putValue, putValues, whyNull, putNull}
 use Rattle.promise.specs.Calls.{Cell}
-use Rattle.promise.proofs.Fits.{Fits, are-fits, data-bytes, Sizes, sizes-then, sizes-complete, sizes-grow, sizes-lay, grow, room-is}
+use Rattle.promise.proofs.Fits.{are-fits, data-bytes, sizes-then, sizes-complete, sizes-grow, sizes-lay, grow, room-is}
 use Rattle.promise.proofs.Steps.{Inv}
 use Rattle.promise.proofs.Gets.{rows-are}
 

@@ -1,6 +1,6 @@
 -- How the answer to an input begins: what is left to write at that place is the answer, whole. Assumes nothing.
 use mathlib.Core.Path.{_≡_}
-use mathlib.Core.Bool.{Bool, false, not, _&&_}
+use mathlib.Core.Bool.{Bool, false, _&&_}
 use mathlib.Core.List.{List}
 use Prim.Native.Nat.{ℕ}
 use lib.Dec.{leb, eqb}
@@ -8,10 +8,9 @@ use lib.ListN.{length}
 use Rattle.basis.specs.Pick.{pick}
 use Rattle.column.specs.declared.Column.{Column}
 use Rattle.column.specs.declared.Kind.the-variants.{Binary}
-use Rattle.column.specs.Lent.{Lent, lent}
+use Rattle.column.specs.Lent.{lent}
 use Rattle.shelf.specs.Lines.{lines, firstBad}
 use Rattle.shelf.specs.Adding.{built, shelfLent, shelfColumn}
-use Rattle.whole.specs.declared.Place.{Place}
 use Rattle.whole.specs.declared.Place.the-variants.{Refused, Opening}
 use Rattle.whole.specs.Answer.{answer}
 use Rattle.whole.specs.Rest.{restOf}

@@ -17,14 +17,14 @@ use Rattle.reading.specs.declared.Bit.the-variants as bit
 use Rattle.reading.specs.Reading.{bitOf, valueAt, nullRun, totalBytesLen, totalBufferBytesUsed}
 use Rattle.listing.specs.Text.{closing, digits, decimal, bytesText, textFrom, itemText, rowOpen, rowClose, rowNull, rowLine, gapLine, opening, refusedLine}
 use Rattle.listing.specs.Put.{Holds, Rest}
-use Rattle.listing.specs.Laws.{text-more, text-end, text-start}
+use Rattle.listing.specs.Laws.{text-more, text-end}
 use Rattle.shelf.specs.declared.Item.{Item}
 use Rattle.shelf.specs.declared.Item.the-variants as item
 use Rattle.shelf.specs.Items.{itemCount, itemAt}
 use Rattle.whole.specs.declared.Place.{Place}
 use Rattle.whole.specs.declared.Place.the-variants.{Refused, Opening, Line, Part, End}
 use Rattle.whole.specs.declared.Piece.{Piece}
-use Rattle.whole.specs.Answer.{Row, row, isValid, rowAt, rowsOf, numberOf, closingOf, listedColumn}
+use Rattle.whole.specs.Answer.{Row, isValid, rowsOf, numberOf, closingOf, listedColumn}
 use Rattle.whole.specs.Pieces.{nothing, itemLine, itemLines, length-rows, row-at, column-whole}
 use Rattle.whole.specs.Rest.{linesFrom, itemValue, partsFrom, restOf, isEnd, steps, weight, piece, Wrote}
 

@@ -1,5 +1,3 @@
-use denote.Ref.{now}
-use native.Mathlib.Omega.{arith}
 use borrow.Author.Needs.{needs}
 use Rattle.whole.proofs.item_value.Statement.{statement}
 use Rattle.whole.proofs.item_value.Tie as tie

@@ -1,6 +1,4 @@
 use Rattle.whole.specs.RestLaws.{at-refused, at-opening, at-line, at-part, at-end}
-use denote.Ref.{now}
-use native.Mathlib.Omega.{arith}
 use borrow.Author.Needs.{needs}
 use Rattle.whole.proofs.next_piece.Statement.{statement}
 use Rattle.whole.proofs.next_piece.Tie as tie

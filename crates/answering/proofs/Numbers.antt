@@ -1,4 +1,5 @@
--- The builder's numbers while lines are added: at most one block, open and from 0 on, in which there is room for all that can come. So no call is refused. Assumes nothing.
+-- The builder's numbers while lines are added: at most one block, open and from 0 on, in which there is room for all that can come.
+-- So no call is refused. Assumes nothing.
 use mathlib.Core.Path.{_≡_, refl, sym, ap, _∙_, subst}
 use mathlib.Core.Bool.{Bool, true, false, not}
 use mathlib.Core.Logic.{by-cases}

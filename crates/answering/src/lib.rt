@@ -1,4 +1,5 @@
-// The program's answer to its input. What is listed at each row is the line that came in: specs/Listed says it, and proofs/Listed proves it of every accepted input.
+// The program's answer to its input.
+// What is listed at each row is the line that came in: specs/Listed says it, and proofs/Listed proves it of every accepted input.
 ghost use mathlib.Core.Path.{_≡_};
 ghost use Rattle.answering.specs.Begins.{refusal, Begins};
 use column::Column;

@@ -84,7 +84,7 @@ pub fn first_bad(s: &[u8]) -> usize
     0
 }
 
-// The row of a line.
+// The row of a line. The verdict is dropped: the crate `answering` proves that none is refused where the input is accepted.
 fn turn(
     s: State,
     views: &mut [u8],

@@ -1,4 +1,5 @@
-// Lists the column that the lines of standard input make: reads, calls, and writes piece by piece. Where a read or a write fails it stops and says so on standard error.
+// Lists the column that the lines of standard input make: reads, calls, and writes piece by piece.
+// Where a read or a write fails it stops and says so on standard error.
 // A program of this language has no exit status. Started as `shelflist --status` it writes to descriptor 3 the digit that `./shelflist` then ends with:
 // 0 for a listing, 1 for a refused input, 2 where a read or a write failed.
 use column::Column;

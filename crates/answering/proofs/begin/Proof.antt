@@ -17,13 +17,21 @@ refused-requires-2 : tie.Need-refused-requires-2
 refused-requires-2 c κs = search needs
 
 returns-2 : tie.Need-returns-2
-returns-2 c = rw (c .refused2 .ensures) (begins-bad _ _ _ _ _ _ _ _ (c .before .before .before .if1 .left) (c .before .before .first-bad .ensures) (c .before .if2 .taken))
+returns-2 c =
+    rw
+    (c .refused2 .ensures)
+    (begins-bad _ _ _ _ _ _ _ _ (c .before .before .before .if1 .left) (c .before .before .first-bad .ensures) (c .before .if2 .taken))
 
 build-requires : tie.Need-build-requires
 build-requires c κs = search needs
 
 returns-3 : tie.Need-returns-3
-returns-3 c = begins-listed _ _ _ _ _ _ _ (record { views = search needs; bytes = search needs; starts = search needs; lens = search needs; nulls = search needs }) (c .before .before .before .before .before .before .before .before .before .if1 .left) (sym (c .before .before .before .before .before .before .before .before .first-bad .ensures) ∙ c .before .before .before .before .before .before .before .if2 .left) (c .build .ensures)
+returns-3 c =
+    begins-listed _ _ _ _ _ _ _
+    (record { views = search needs; bytes = search needs; starts = search needs; lens = search needs; nulls = search needs })
+    (c .before .before .before .before .before .before .before .before .before .if1 .left)
+    (sym (c .before .before .before .before .before .before .before .before .first-bad .ensures) ∙ c .before .before .before .before .before .before .before .if2 .left)
+    (c .build .ensures)
 
 pub begin-spec : {M : Type 1} → statement M
 begin-spec =

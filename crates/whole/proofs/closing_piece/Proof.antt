@@ -27,7 +27,11 @@ put-closing-requires : tie.Need-put-closing-requires
 put-closing-requires c κs = search needs
 
 returns : tie.Need-returns
-returns c = holds-closing _ _ (c .before .before .before .before .before .number .ensures ∙ ap numberOf (c .before .before .before .before .before .before .null-run .ensures)) (c .before .before .before .number2 .ensures ∙ ap numberOf (c .before .before .before .before .total-bytes-len .ensures)) (c .before .number3 .ensures ∙ ap numberOf (c .before .before .total-buffer-bytes-used .ensures)) (c .put-closing .ensures)
+returns c =
+    holds-closing _ _
+    (c .before .before .before .before .before .number .ensures ∙ ap numberOf (c .before .before .before .before .before .before .null-run .ensures))
+    (c .before .before .before .number2 .ensures ∙ ap numberOf (c .before .before .before .before .total-bytes-len .ensures))
+    (c .before .number3 .ensures ∙ ap numberOf (c .before .before .total-buffer-bytes-used .ensures)) (c .put-closing .ensures)
 
 pub closing-piece-spec : {M : Type 1} → statement M
 closing-piece-spec =

@@ -36,7 +36,10 @@ returns-2 : tie.Need-returns-2
 returns-2 c = search needs
 
 returns-3 : tie.Need-returns-3
-returns-3 c = wrote-gap _ _ _ (omega (arith, c .before .before .before .before .before .before .before .items .ensures, c .before .before .before .before .before .before .if1 .left)) _ (sym (c .before .before .before .it2 .given .1) ∙ c .before .before .before .before .before .nth-item .ensures) (c .put-gap .ensures)
+returns-3 c =
+    wrote-gap _ _ _
+    (omega (arith, c .before .before .before .before .before .before .before .items .ensures, c .before .before .before .before .before .before .if1 .left))
+    _ (sym (c .before .before .before .it2 .given .1) ∙ c .before .before .before .before .before .nth-item .ensures) (c .put-gap .ensures)
 
 pub line-piece-spec : {M : Type 1} → statement M
 line-piece-spec =

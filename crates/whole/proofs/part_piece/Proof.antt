@@ -25,7 +25,11 @@ add-t20 : tie.Need-add-t20
 add-t20 c = search needs
 
 returns-2 : tie.Need-returns-2
-returns-2 c = wrote-close _ _ _ (omega (arith, c .before .before .before .before .before .before .items .ensures, c .before .before .before .before .before .if1 .left)) _ _ (c .before .before .before .item-value .ensures ∙ ap (itemValue _ _) (c .before .before .before .before .nth-item .ensures)) (c .before .before .if2 .taken) (c .put-row-close .ensures)
+returns-2 c =
+    wrote-close _ _ _
+    (omega (arith, c .before .before .before .before .before .before .items .ensures, c .before .before .before .before .before .if1 .left)) _ _
+    (c .before .before .before .item-value .ensures ∙ ap (itemValue _ _) (c .before .before .before .before .nth-item .ensures))
+    (c .before .before .if2 .taken) (c .put-row-close .ensures)
 
 part-end-requires : tie.Need-part-end-requires
 part-end-requires c κs = search needs
@@ -34,7 +38,11 @@ row-part-requires : tie.Need-row-part-requires
 row-part-requires c κs = search needs
 
 returns-3 : tie.Need-returns-3
-returns-3 c = wrote-part _ _ _ (omega (arith, c .before .before .before .before .before .before .before .items .ensures, c .before .before .before .before .before .before .if1 .left)) _ _ _ (c .before .before .before .before .item-value .ensures ∙ ap (itemValue _ _) (c .before .before .before .before .before .nth-item .ensures)) (c .before .before .part-end .ensures .1 .0) (c .before .before .part-end .ensures .1 .1) (c .row-part .ensures)
+returns-3 c =
+    wrote-part _ _ _
+    (omega (arith, c .before .before .before .before .before .before .before .items .ensures, c .before .before .before .before .before .before .if1 .left))
+    _ _ _ (c .before .before .before .before .item-value .ensures ∙ ap (itemValue _ _) (c .before .before .before .before .before .nth-item .ensures))
+    (c .before .before .part-end .ensures .1 .0) (c .before .before .part-end .ensures .1 .1) (c .row-part .ensures)
 
 pub part-piece-spec : {M : Type 1} → statement M
 part-piece-spec =

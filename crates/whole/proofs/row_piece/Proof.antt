@@ -22,7 +22,9 @@ put-row-null-requires : tie.Need-put-row-null-requires
 put-row-null-requires c κs = search needs
 
 add-t20 : tie.Need-add-t20
-add-t20 c = omega (arith, c .before .before .before .before .before .before .before .before .before .before .pre, count-most (c .before .before .before .before .before .before .before .before .before .before .args .c .rows))
+add-t20 c =
+    omega
+    (arith, c .before .before .before .before .before .before .before .before .before .before .pre, count-most (c .before .before .before .before .before .before .before .before .before .before .args .c .rows))
 
 enum-known-bit : tie.Need-enum-known-bit
 enum-known-bit c = search needs
@@ -31,16 +33,30 @@ put-row-null-requires-2 : tie.Need-put-row-null-requires-2
 put-row-null-requires-2 c κs = search needs
 
 add-t25 : tie.Need-add-t25
-add-t25 c = omega (arith, c .before .before .before .before .before .before .before .before .before .before .before .pre, count-most (c .before .before .before .before .before .before .before .before .before .before .before .args .c .rows))
+add-t25 c =
+    omega
+    (arith, c .before .before .before .before .before .before .before .before .before .before .before .pre, count-most (c .before .before .before .before .before .before .before .before .before .before .before .args .c .rows))
 
 returns : tie.Need-returns
-returns c = wrote-open _ _ _ (c .before .before .before .before .before .before .before .before .before .before .pre .0) _ (c .before .before .before .before .before .before .before .before .before .before .pre .1) (c .before .before .before .before .null-bit .ensures) (ap isValid (c .before .before .enum-told .given .1)) (c .put-row-open .ensures)
+returns c =
+    wrote-open _ _ _
+    (c .before .before .before .before .before .before .before .before .before .before .pre .0) _
+    (c .before .before .before .before .before .before .before .before .before .before .pre .1) (c .before .before .before .before .null-bit .ensures)
+    (ap isValid (c .before .before .enum-told .given .1)) (c .put-row-open .ensures)
 
 returns-2 : tie.Need-returns-2
-returns-2 c = wrote-null _ _ _ (c .before .before .before .before .before .before .before .before .before .before .pre .0) _ (c .before .before .before .before .before .before .before .before .before .before .pre .1) (c .before .before .before .before .null-bit .ensures) (ap isValid (c .before .before .enum-told2 .given .1)) (c .put-row-null .ensures)
+returns-2 c =
+    wrote-null _ _ _
+    (c .before .before .before .before .before .before .before .before .before .before .pre .0) _
+    (c .before .before .before .before .before .before .before .before .before .before .pre .1) (c .before .before .before .before .null-bit .ensures)
+    (ap isValid (c .before .before .enum-told2 .given .1)) (c .put-row-null .ensures)
 
 returns-3 : tie.Need-returns-3
-returns-3 c = wrote-null _ _ _ (c .before .before .before .before .before .before .before .before .before .before .before .pre .0) _ (c .before .before .before .before .before .before .before .before .before .before .before .pre .1) (c .before .before .before .before .before .null-bit .ensures) (ap isValid (c .before .before .before .bit .given .1)) (c .put-row-null2 .ensures)
+returns-3 c =
+    wrote-null _ _ _
+    (c .before .before .before .before .before .before .before .before .before .before .before .pre .0) _
+    (c .before .before .before .before .before .before .before .before .before .before .before .pre .1)
+    (c .before .before .before .before .before .null-bit .ensures) (ap isValid (c .before .before .before .bit .given .1)) (c .put-row-null2 .ensures)
 
 pub row-piece-spec : {M : Type 1} → statement M
 row-piece-spec =

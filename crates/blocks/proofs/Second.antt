@@ -1,5 +1,5 @@
 -- No second answer to any call over records, and none to a step of the walk; of a part, also which one it is. These are walked by hand, so the theorem is over their clauses. Assumes nothing.
-use mathlib.Core.Path.{_≡_, sym, ap₂, _∙_}
+use mathlib.Core.Path.{_≡_, sym, _∙_}
 use mathlib.Core.List.{List}
 use Prim.Native.Nat.{ℕ}
 use lib.ListN.{length, getD}

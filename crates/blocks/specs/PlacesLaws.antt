@@ -13,7 +13,7 @@ use Rattle.bounds.specs.Refusals.{refuse, refuse-yes, refuse-no}
 use Rattle.bounds.specs.declared.Refusal.the-variants.{Fit, Range, BadView}
 use Rattle.bounds.specs.declared.Why.{Why}
 use Rattle.bounds.specs.declared.Why.the-variants.{Accepted, Refused}
-use Rattle.views.specs.View.{viewSize, viewAt, blockOf}
+use Rattle.views.specs.View.{viewSize, viewAt}
 use Rattle.column.specs.declared.Block.{Block}
 use Rattle.column.specs.declared.Column.{Column}
 use Rattle.column.specs.Lent.{Lent, buffers, block, blockAt, fits, inData, dataRoom, allInData}

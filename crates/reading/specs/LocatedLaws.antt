@@ -1,22 +1,21 @@
 -- A row's value as it was looked for: its verdict, its bytes, and that its part lies in its slice. Assumes nothing.
-use mathlib.Core.Path.{_≡_, refl, sym, ap, ap₂, _∙_}
-use mathlib.Core.Bool.{Bool, true, false, not, true≢false}
+use mathlib.Core.Path.{_≡_, refl, ap, _∙_}
+use mathlib.Core.Bool.{Bool, true, false, not}
 use mathlib.Core.List.{List, []}
-use Prim.Native.Nat.{ℕ, _+_, _*_, _≤_, _<_}
+use Prim.Native.Nat.{ℕ, _+_, _<_}
 use native.Mathlib.Nat.{add-comm}
-use lib.ListN.{length}
 use Rattle.bounds.specs.Refusals.{refuse, isAccepted, ifAccepted}
 use Rattle.bounds.specs.declared.Refusal.{Refusal}
-use Rattle.bounds.specs.declared.Refusal.the-variants.{Fit, Row, BadView}
+use Rattle.bounds.specs.declared.Refusal.the-variants.{BadView}
 use Rattle.bounds.specs.declared.Why.{Why}
 use Rattle.bounds.specs.declared.Why.the-variants.{Accepted, Refused}
-use Rattle.views.specs.View.{viewSize, viewAt}
+use Rattle.views.specs.View.{viewAt}
 use Rattle.column.specs.declared.Block.{Block}
 use Rattle.column.specs.declared.Column.{Column}
 use Rattle.column.specs.declared.Spot.{Spot}
 use Rattle.column.specs.Lent.{Lent, buffers, fits}
-use Rattle.column.specs.Meaning.{blocksOf, shown, shownAt}
-use Rattle.column.specs.Spot.{spotIn, bytesAt, pointsTo, further, Lies}
+use Rattle.column.specs.Meaning.{shownAt}
+use Rattle.column.specs.Spot.{spotIn, bytesAt, pointsTo, Lies}
 use Rattle.column.specs.Truth.{reachBy, isInside, reachable, reachableAt}
 use Rattle.column.specs.FitLaws.{fits-view}
 use Rattle.column.specs.SpotLaws.{spot-reach, found-lies, found-reach, spot-shown}
@@ -24,7 +23,7 @@ use Rattle.reading.specs.declared.Located.{Located}
 use Rattle.reading.specs.declared.Located.the-variants as located
 use Rattle.reading.specs.Reading.{whyReach, whyValue, locatedBy, valueAt, whyOf, bytesOf, pointsOf, LiesAt, pointsAt}
 use Rattle.reading.specs.Reading as spec
-use Rattle.reading.specs.ReadingLaws.{value-unfit, value-past, value-reach, value-readable, value-reached}
+use Rattle.reading.specs.ReadingLaws.{value-reach, value-readable}
 
 -- ---- what is found, by the tests
 

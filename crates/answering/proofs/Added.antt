@@ -70,13 +70,15 @@ all-added {m} [] k n b xs g i a h r = record { ran = none; inv = rw (append-nil 
 all-added {m} (l ∷ ls) k n b xs g i a h r = go (isBad (says l)) refl g (λ b n xs. all-added ls (suc k) n b xs)
   where
     go : (t : Bool) → isBad (says l) ≡ t → pick t (suc k) (firstBad (suc k) ls) ≡ 0
-        → ((b : Builder) (n : ℕ) (xs : List Cell) → firstBad (suc k) ls ≡ 0 → Inv m b xs → Numbers n b → length xs + length ls ≤ m → n + valueBytes ls ≤ 16379 → Ended m (n + blockBytesIn (map rowOf ls)) ls b xs)
+        → ((b : Builder) (n : ℕ) (xs : List Cell) → firstBad (suc k) ls ≡ 0 → Inv m b xs → Numbers n b → length xs + length ls ≤ m
+        → n + valueBytes ls ≤ 16379 → Ended m (n + blockBytesIn (map rowOf ls)) ls b xs)
         → Ended m (n + blockBytesIn (map rowOf (l ∷ ls))) (l ∷ ls) b xs
     go true e g rest = absurd (omega arith)
     go false e g rest =
         let s : Step m n (says l) (valueOf l) b xs = step n b xs i a (omega arith) (valueOf l) (omega arith) (says l) e (null-empty l) in
         let c : Builder = put (callOf l) b in
-        let q = rest c (n + longOf (valueOf l)) (xs ++ cellOf l ∷ []) g (s .inv) (s .numbers) (omega (arith, length-append xs (cellOf l ∷ []))) (omega (arith, long-most (valueOf l))) in
+        let q = rest c (n + longOf (valueOf l)) (xs ++ cellOf l ∷ []) g (s .inv) (s .numbers) (omega (arith, length-append xs (cellOf l ∷ [])))
+        (omega (arith, long-most (valueOf l))) in
         let d : c ≡ added l b = sym (s .leaves) in
         let k : n + longOf (valueOf l) + blockBytesIn (map rowOf ls) ≡ n + (longOf (valueOf l) + blockBytesIn (map rowOf ls)) = omega arith in
         let ys : (xs ++ cellOf l ∷ []) ++ map cellOf ls ≡ xs ++ map cellOf (l ∷ ls) = append-assoc xs (cellOf l ∷ []) (map cellOf ls) in

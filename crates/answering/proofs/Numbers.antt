@@ -105,7 +105,18 @@ module _ {m : ℕ} (b : Builder) (xs : List Cell) (i : Inv m b xs) (h : length x
 pub numbers-row : (b : Builder) (n : ℕ) (v : List ℕ) (t : Bool) → Numbers n b → Numbers n (addRow v t b)
 unfolding addRow blockRoom dataRoom
 numbers-row b n v t a =
-    record { kind = a .kind; merging = a .merging; blocks = a .blocks; base = a .base; fill = a .fill; fresh = a .fresh; cap = a .cap; table = a .table; bytes = a .bytes }
+    record {
+      kind = a .kind;
+      merging = a .merging;
+      blocks = a .blocks;
+      base = a .base;
+      fill = a .fill;
+      fresh = a .fresh;
+      cap = a .cap;
+      table =
+          a .table;
+      bytes = a .bytes;
+    }
 
 pub numbers-null : (b : Builder) (n : ℕ) → Numbers n b → Numbers n (putNull b)
 unfolding putNull
@@ -197,4 +208,5 @@ numbers-value b n x a r = go (isShort (length x)) refl
     go true e = rw (add-zero n) (numbers-row b n (shortView x) true a)
     go false e =
         rw (none-found b x (a .merging))
-        (numbers-row _ (n + length x) _ true (numbers-lay (makeRoom (length x) b) n x (ready b n (length x) a r) r (omega (arith, leb-false (length x) shortMost e))))
+        (numbers-row _ (n + length x) _ true (numbers-lay (makeRoom (length x) b) n x (ready b n (length x) a r) r
+        (omega (arith, leb-false (length x) shortMost e))))

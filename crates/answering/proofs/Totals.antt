@@ -34,7 +34,8 @@ unfoldable sum : (Cell → ℕ) → List Cell → ℕ
 sum w [] = 0
 sum w (x ∷ xs) = w x + sum w xs
 
-sum-rest : (f g : ℕ → ℕ) (w : Cell → ℕ) (xs : List Cell) → f 0 ≡ 0 → ((n : ℕ) → f (suc n) ≡ f n + g n) → ((n : ℕ) → n < length xs → g n ≡ w (getD xs n no·value))
+sum-rest : (f g : ℕ → ℕ) (w : Cell → ℕ) (xs : List Cell) → f 0 ≡ 0 → ((n : ℕ) → f (suc n) ≡ f n + g n) → ((n : ℕ) → n < length xs
+    → g n ≡ w (getD xs n no·value))
     → (n : ℕ) → n ≤ length xs → f n + sum w (drop n xs) ≡ sum w xs
 unfolding sum
 sum-rest f g w xs z s e zero h = omega (arith, z)
@@ -76,7 +77,8 @@ bit-valid true = refl
 bit-valid false = refl
 
 module _ (l : Lent) (c : Column) where
-  from-list : (xs : List Cell) (r : ℕ) → ((k : ℕ) → k < length xs → rowAt l c (r + k) ≡ rowFor (getD xs k no·value)) → rowsFrom l c r (length xs) ≡ map rowFor xs
+  from-list : (xs : List Cell) (r : ℕ) → ((k : ℕ) → k < length xs → rowAt l c (r + k) ≡ rowFor (getD xs k no·value)) → rowsFrom l c r (length xs)
+      ≡ map rowFor xs
   unfolding rowsFrom
   from-list [] r h = refl
   from-list (x ∷ xs) r h =
@@ -113,10 +115,12 @@ module _ (xs : List Cell) {l : Lent} {c : Column} (s : Shows l c (map bytesIn xs
   unfolding totalBytesLen whyColumn refuse bytesLen
   bytes-listed =
       rw (s .fitted)
-      (ap (bytesLen l c) (rows-shown xs s) ∙ sum-all (bytesLen l c) (λ (n : ℕ). pick (validAt l c n) (lengthOf (rowView l c n)) 0) _ xs refl (λ n. refl) (λ n h. rw (bit-at n h, length-at n h)) ∙ bytes-sum xs)
+      (ap (bytesLen l c) (rows-shown xs s) ∙ sum-all (bytesLen l c) (λ (n : ℕ). pick (validAt l c n) (lengthOf (rowView l c n)) 0) _ xs refl
+      (λ n. refl) (λ n h. rw (bit-at n h, length-at n h)) ∙ bytes-sum xs)
 
   pub long-listed : numberOf (totalBufferBytesUsed l c) ≡ blockBytesIn (map rowFor xs)
   unfolding totalBufferBytesUsed whyColumn refuse bufferBytes
   long-listed =
       rw (s .fitted)
-      (ap (bufferBytes l c) (rows-shown xs s) ∙ sum-all (bufferBytes l c) (λ (n : ℕ). pick (isShort (lengthOf (rowView l c n))) 0 (lengthOf (rowView l c n))) _ xs refl (λ n. refl) (λ n h. rw (length-at n h)) ∙ long-sum xs)
+      (ap (bufferBytes l c) (rows-shown xs s) ∙ sum-all (bufferBytes l c) (λ (n : ℕ). pick (isShort (lengthOf (rowView l c n))) 0
+      (lengthOf (rowView l c n))) _ xs refl (λ n. refl) (λ n h. rw (length-at n h)) ∙ long-sum xs)

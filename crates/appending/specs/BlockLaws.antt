@@ -99,10 +99,17 @@ module _ (s : State) (vs bs ss ns ms ps : List ℕ) where
     unfolding whyBlock refuse
     block-long h g = rw (h, lt-ltb byteLimit (length x) g)
 
-    pub block-room : (blocks bytes : ℕ) (w : Why) → fitsState here ≡ true → length x ≤ byteLimit → blocks ≡ roomOfBlocks (length ss) (length ns) → bytes ≡ roomOfBytes (length bs)
+    pub block-room : (blocks bytes : ℕ) (w : Why) → fitsState here ≡ true → length x ≤ byteLimit → blocks ≡ roomOfBlocks (length ss) (length ns)
+        → bytes ≡ roomOfBytes (length bs)
         → w ≡ whyRoom s blocks bytes 1 (length x) → w ≡ whyBlock here x
     unfolding whyBlock refuse
-    block-room blocks bytes w h g eb ed e = e ∙ rw (h, le-ltb byteLimit (length x) g, eb ∙ blocks-room-is s vs bs ss ns ms ps, ed ∙ bytes-room-is s vs bs ss ns ms ps)
+    block-room blocks bytes w h g eb ed e = e ∙ rw (
+      h,
+      le-ltb byteLimit (length x) g,
+      eb ∙ blocks-room-is s vs bs ss ns ms ps,
+      ed
+          ∙ bytes-room-is s vs bs ss ns ms ps,
+    )
 
     -- what an accepted block knows
     pub record Blocked : Type 0 where
@@ -134,7 +141,8 @@ module _ (s : State) (vs bs ss ns ms ps : List ℕ) where
     unfolding blockNumber
     does-not-block w e h = (does-no (λ b. whyBlock b x) (putBlock x) s vs bs ss ns ms ps w e h, accepted-no (whyBlock here x) w (allBlocks s) 0 0 e h refl)
 
-    pub does-block : (w : Why) (t : State) {u : State} {ss₁ ns₁ bs′ ss′ ns′ : List ℕ} → w ≡ whyBlock here x → isAccepted w ≡ true → t ≡ closed s → ss₁ ≡ openStarts s ss → ns₁ ≡ openLens s ns → u ≡ blockMore (length x) t
+    pub does-block : (w : Why) (t : State) {u : State} {ss₁ ns₁ bs′ ss′ ns′ : List ℕ} → w ≡ whyBlock here x → isAccepted w ≡ true → t ≡ closed s
+        → ss₁ ≡ openStarts s ss → ns₁ ≡ openLens s ns → u ≡ blockMore (length x) t
         → bs′ ≡ paste bs (t .base) x (length x) → ss′ ≡ set ss₁ (t .blocks) (t .base) → ns′ ≡ set ns₁ (t .blocks) (length x)
         → Does (λ b. whyBlock b x) (putBlock x) s vs bs ss ns ms ps (answer Accepted u) vs bs′ ss′ ns′ ms ps × (t .blocks ≡ blockNumber here x)
     unfolding putBlock layBlock complete closed recorded blockNumber
@@ -147,9 +155,11 @@ module _ (s : State) (vs bs ss ns ms ps : List ℕ) where
           does-put (λ b. whyBlock b x) (putBlock x) s vs bs ss ns ms ps (putBlock x here) (is-accepted w (whyBlock here x) e h) refl
               (eu ∙ ap (blockMore (length x)) et) refl
               (eb ∙ ap (λ (z : State). paste bs (z .base) x (length x)) et)
-              (es ∙ (λ i. set (e1 i) (et i .blocks) (et i .base)) ∙ ap (λ (l : List ℕ). set l (allBlocks s) (used s)) (recorded-starts s vs bs ss ns ms (f .starts) (f .lens))
+              (es ∙ (λ i. set (e1 i) (et i .blocks) (et i .base)) ∙ ap (λ (l : List ℕ). set l (allBlocks s) (used s)) (recorded-starts s vs bs ss ns
+              ms (f .starts) (f .lens))
               ∙ sym (starts-put T ss (allBlocks s) (used s) (length x) k))
-              (en ∙ (λ i. set (e2 i) (et i .blocks) (length x)) ∙ ap (λ (l : List ℕ). set l (allBlocks s) (length x)) (recorded-lens s vs bs ss ns ms (f .starts) (f .lens))
+              (en ∙ (λ i. set (e2 i) (et i .blocks) (length x)) ∙ ap (λ (l : List ℕ). set l (allBlocks s) (length x)) (recorded-lens s vs bs ss ns ms
+              (f .starts) (f .lens))
               ∙ sym (lens-put T ns (allBlocks s) (used s) (length x) k))
               refl refl,
           ap (λ (z : State). z .blocks) et ∙ accepted-yes (whyBlock here x) w (allBlocks s) 0 (allBlocks s) e h refl,
@@ -221,12 +231,32 @@ module _ (s : State) (vs bs ss ns ms ps : List ℕ) where
                 pub view-full : rows ≤ s .rows → Refused RowRoom ≡ whyView at k o n
                 unfolding whyView refuse
                 view-full h =
-                    rw (fit, lt-leb (s .blocks) k there, sym data-is ∙ inside, len-is, le-leb (o + n) (getD ns k 0) range, kind-is ∙ ok, ← er ∙ rows-room-is s vs bs ss ns ms ps, le-leb rows (s .rows) h)
+                    rw (
+                      fit,
+                      lt-leb (s .blocks) k there,
+                      sym data-is ∙ inside,
+                      len-is,
+                      le-leb (o + n) (getD ns k 0) range,
+                      kind-is ∙ ok,
+                      ← er
+                          ∙ rows-room-is s vs bs ss ns ms ps,
+                      le-leb rows (s .rows) h,
+                    )
 
                 pub view-fine : s .rows < rows → Accepted ≡ whyView at k o n
                 unfolding whyView refuse
                 view-fine h =
-                    rw (fit, lt-leb (s .blocks) k there, sym data-is ∙ inside, len-is, le-leb (o + n) (getD ns k 0) range, kind-is ∙ ok, ← er ∙ rows-room-is s vs bs ss ns ms ps, lt-leb rows (s .rows) h)
+                    rw (
+                      fit,
+                      lt-leb (s .blocks) k there,
+                      sym data-is ∙ inside,
+                      len-is,
+                      le-leb (o + n) (getD ns k 0) range,
+                      kind-is ∙ ok,
+                      ← er
+                          ∙ rows-room-is s vs bs ss ns ms ps,
+                      lt-leb rows (s .rows) h,
+                    )
 
     -- what an accepted view knows
     pub record Seen : Type 0 where
@@ -241,7 +271,8 @@ module _ (s : State) (vs bs ss ns ms ps : List ℕ) where
     seen a =
         let f = accepted-both Fit (not (fitsState at)) _ a in
         let b = accepted-both NoBlock (leb (s .blocks) k) _ (f .1) in
-        let r = accepted-both Range (not (inData (lent vs bs ss ns ms) (blockAt (lent vs bs ss ns ms) k) && leb (o + n) (blockAt (lent vs bs ss ns ms) k .len))) _ (b .1) in
+        let r = accepted-both Range (not (inData (lent vs bs ss ns ms) (blockAt (lent vs bs ss ns ms) k) && leb (o + n) (blockAt (lent vs bs ss ns ms)
+        k .len))) _ (b .1) in
         let u = accepted-both NotUtf8 (not (ofKind (s .kind) (viewed at k o n))) _ (r .1) in
         let m = accepted-both RowRoom (leb (rowsRoom at) (s .rows)) Accepted (u .1) in
         let fit = not-false (fitsState at) (f .0) in
@@ -251,7 +282,8 @@ module _ (s : State) (vs bs ss ns ms ps : List ℕ) where
           fit = fit;
           there = there;
           inside = data-is fit there ∙ and-left (inData (lent vs bs ss ns ms) (blockAt (lent vs bs ss ns ms) k)) _ both;
-          range = leb-true (o + n) (getD ns k 0) (ap (λ (z : ℕ). leb (o + n) z) (sym (ap (λ (b : Block). b .len) (record-is fit there))) ∙ and-right (inData (lent vs bs ss ns ms) (blockAt (lent vs bs ss ns ms) k)) _ both);
+          range = leb-true (o + n) (getD ns k 0) (ap (λ (z : ℕ). leb (o + n) z) (sym (ap (λ (b : Block). b .len) (record-is fit there)))
+              ∙ and-right (inData (lent vs bs ss ns ms) (blockAt (lent vs bs ss ns ms) k)) _ both);
           room = leb-false (rowsRoom at) (s .rows) (m .0);
         }
 

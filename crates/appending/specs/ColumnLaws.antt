@@ -65,7 +65,8 @@ rowsOn n before l c b =
     let s = b .state in
     let m = b .lent in
     builder (moved s (s .growth) (s .rows + n) (s .blocks) (s .base) (s .fill) (s .cap) (nulledBy (validAt l c) n (s .nulled)))
-    (buffers (putFrom (λ k. renumbered before (rowView l c k)) n (m .views) (s .rows)) (m .bytes) (m .table) (putBits (m .nulls) (s .rows) (validAt l c) n)) (b .places)
+    (buffers (putFrom (λ k. renumbered before (rowView l c k)) n (m .views) (s .rows)) (m .bytes) (m .table) (putBits (m .nulls) (s .rows)
+    (validAt l c) n)) (b .places)
 
 pub add-column : (n before : ℕ) (l : Lent) (c : Column) (b : Builder) → addColumn n before l c b ≡ rowsOn n before l c b
 unfolding addColumn addRow putFrom putBits nulledBy
@@ -75,7 +76,8 @@ add-column zero before l c b =
 add-column (suc n) before l c b = rw (add-column n before l c b, add-suc (b .state .rows) n)
 
 -- the flag by a count
-pub nulled-is : (m : List ℕ) (mapped : Bool) (first n : ℕ) (b : Bool) → pick (eqb (bits.countNulls m mapped first n) 0) b true ≡ nulledBy (λ k. bits.validAt m mapped (first + k)) n b
+pub nulled-is : (m : List ℕ) (mapped : Bool) (first n : ℕ) (b : Bool) → pick (eqb (bits.countNulls m mapped first n) 0) b true
+    ≡ nulledBy (λ k. bits.validAt m mapped (first + k)) n b
 unfolding nulledBy bits.countNulls
 nulled-is m mapped first zero b = refl
 nulled-is m mapped first (suc n) b = by (bits.validAt m mapped (first + n)) (nulled-is m mapped first n b)
@@ -125,7 +127,8 @@ module _ (bs ss ns : List ℕ) where
   unfolding allInData
   each-in zero k a h = absurd (not-suc-le-zero h)
   each-in (suc n) k a h =
-      by-cases (ℕ-discrete k n) (λ e. rw e (and-right (allInData src n) (inData src (blockAt src n)) a)) (λ d. each-in n k (and-left (allInData src n) (inData src (blockAt src n)) a) (omega arith))
+      by-cases (ℕ-discrete k n) (λ e. rw e (and-right (allInData src n) (inData src (blockAt src n)) a))
+      (λ d. each-in n k (and-left (allInData src n) (inData src (blockAt src n)) a) (omega arith))
 
   module _ (n : ℕ) (li : Listed ss ns n) (a : allInData src n ≡ true) (k : ℕ) (h : k < n) where
     in-numbers : (getD ss k 0 + getD ns k 0 ≤ byteLimit) × (getD ss k 0 + getD ns k 0 ≤ length bs)
@@ -169,7 +172,8 @@ apart [] [] w y c = sym (append-assoc w y c)
 apart [] (b ∷ x) w y c = ap (λ (l : List ℕ). b ∷ l) (apart [] x w y c)
 apart (b ∷ a) x w y c = ap (λ (l : List ℕ). b ∷ l) (apart a x w y c)
 
-middle : (a v c w : List ℕ) → length v ≡ 16 → take (length a + 8) (a ++ v ++ c) ++ w ++ drop (length a + 12) (a ++ v ++ c) ≡ a ++ (take 8 v ++ (w ++ drop 12 v)) ++ c
+middle : (a v c w : List ℕ) → length v ≡ 16 → take (length a + 8) (a ++ v ++ c) ++ w ++ drop (length a + 12) (a ++ v ++ c)
+    ≡ a ++ (take 8 v ++ (w ++ drop 12 v)) ++ c
 middle a v c w h =
     let e : length (a ++ v) ≡ length a + 16 = length-append a v ∙ ap (λ (k : ℕ). length a + k) h in
     rw (
@@ -188,10 +192,12 @@ paste-inside d s w o h g e =
     let la : length (take o d) ≡ o = length-take-le o d (omega arith) in
     let l8 : length (take 8 v) ≡ 8 = length-take-le 8 v (omega (arith, lv)) in
     let l12 : length (drop 12 v) ≡ 4 = length-drop 12 v ∙ ap (λ (k : ℕ). k - 12) lv in
-    let whole : length (take 8 v ++ (w ++ drop 12 v)) ≡ 16 = length-append (take 8 v) (w ++ drop 12 v) ∙ (λ i. l8 i + (length-append w (drop 12 v) ∙ (λ j. e j + l12 j)) i) in
+    let whole : length (take 8 v ++ (w ++ drop 12 v)) ≡ 16 = length-append (take 8 v) (w ++ drop 12 v)
+    ∙ (λ i. l8 i + (length-append w (drop 12 v) ∙ (λ j. e j + l12 j)) i) in
     let p : o + 8 + 4 ≡ o + 12 = omega arith in
     rw (take-all 4 w (omega (arith, e)), take-all 16 (take 8 v ++ (w ++ drop 12 v)) (omega (arith, whole)), p)
-    (subst (λ (k : ℕ). take (k + 8) (take o d ++ v ++ drop (o + 16) d) ++ w ++ drop (k + 12) (take o d ++ v ++ drop (o + 16) d) ≡ take o d ++ (take 8 v ++ (w ++ drop 12 v)) ++ drop (o + 16) d) la
+    (subst (λ (k : ℕ). take (k + 8) (take o d ++ v ++ drop (o + 16) d) ++ w ++ drop (k + 12) (take o d ++ v ++ drop (o + 16) d)
+    ≡ take o d ++ (take 8 v ++ (w ++ drop 12 v)) ++ drop (o + 16) d) la
     (middle (take o d) v (drop (o + 16) d) w lv))
 
 module _ (d s : List ℕ) (to from n : ℕ) where
@@ -272,13 +278,15 @@ module _ (b : Builder) (l : Lent) (c : Column) where
   column-no w fit e h =
       let q : isAccepted (rest Accepted) ≡ false = ap isAccepted (sym (e ∙ alone-is)) ∙ h in
       e ∙ alone-is
-      ∙ refuse-same Fit (not (fits l c)) _ _ (lowest-same (trueAt (b .state .kind) l c) (c .rows) _ _ (refuse-same Range (not (allInData l (c .blocks))) Accepted later (never later))) q
+      ∙ refuse-same Fit (not (fits l c)) _ _ (lowest-same (trueAt (b .state .kind) l c) (c .rows) _ _
+      (refuse-same Range (not (allInData l (c .blocks))) Accepted later (never later))) q
       ∙ sym (whole-is fit)
 
   column-on : fitsState b ≡ true → isAccepted alone ≡ true → whyColumn l c b ≡ later
   column-on fit a =
       whole-is fit
-      ∙ refuse-on Fit (not (fits l c)) _ _ later (lowest-on (trueAt (b .state .kind) l c) (c .rows) _ _ later (refuse-on Range (not (allInData l (c .blocks))) Accepted later later (λ z. refl)))
+      ∙ refuse-on Fit (not (fits l c)) _ _ later (lowest-on (trueAt (b .state .kind) l c) (c .rows) _ _ later
+      (refuse-on Range (not (allInData l (c .blocks))) Accepted later later (λ z. refl)))
       (ap isAccepted (sym alone-is) ∙ a)
 
   pub alone-gives : isAccepted alone ≡ true → (fits l c ≡ true) × (allInData l (c .blocks) ≡ true)
@@ -309,18 +317,27 @@ module _ (s : State) (vs bs ss ns ms ps cv cb cs cl cn : List ℕ) (c : Column) 
   pub lies : allInData from (c .blocks) ≡ true → allInData (bare [] cb cs cl) (c .blocks) ≡ true
   lies a = sym (all-bare cv cb cs cl cn (c .blocks)) ∙ a
 
-  module _ (fit : fitsState here ≡ true) (ok : isAccepted (alone here from c) ≡ true) (rows : ℕ) (er : rows ≡ roomOfRows (s .merging) (length vs) (length ms) (length ps)) where
+  module _ (fit : fitsState here ≡ true) (ok : isAccepted (alone here from c) ≡ true) (rows : ℕ) (er : rows ≡ roomOfRows (s .merging) (length vs)
+      (length ms) (length ps)) where
     pub column-full : rows < s .rows + c .rows → Refused RowRoom ≡ whyColumn from c here
     unfolding refuse
     column-full h = sym (column-on here from c fit ok ∙ rw (← er ∙ rows-room-is s vs bs ss ns ms ps, lt-ltb rows (s .rows + c .rows) h))
 
-    pub column-room : (blocks bytes m : ℕ) (w : Why) → s .rows + c .rows ≤ rows → blocks ≡ roomOfBlocks (length ss) (length ns) → bytes ≡ roomOfBytes (length bs) → m ≡ lensTotal cl (c .blocks)
+    pub column-room : (blocks bytes m : ℕ) (w : Why) → s .rows + c .rows ≤ rows → blocks ≡ roomOfBlocks (length ss) (length ns)
+        → bytes ≡ roomOfBytes (length bs) → m ≡ lensTotal cl (c .blocks)
         → w ≡ whyRoom s blocks bytes (c .blocks) m → w ≡ whyColumn from c here
     unfolding refuse
     column-room blocks bytes m w h eb ed em e =
         let g = fit-laws.fits-gives cv cb cs cl cn c (alone-gives here from c ok .0) in
         let em′ : m ≡ sizes from (c .blocks) = em ∙ sizes-is cv cb cs cl cn (c .blocks) (g .starts) (g .lens) in
-        e ∙ sym (column-on here from c fit ok ∙ rw (← er ∙ rows-room-is s vs bs ss ns ms ps, le-ltb rows (s .rows + c .rows) h, ← eb ∙ blocks-room-is s vs bs ss ns ms ps, ← ed ∙ bytes-room-is s vs bs ss ns ms ps, ← em′))
+        e ∙ sym (column-on here from c fit ok ∙ rw (
+          ← er ∙ rows-room-is s vs bs ss ns ms ps,
+          le-ltb rows (s .rows + c .rows) h,
+          ← eb
+              ∙ blocks-room-is s vs bs ss ns ms ps,
+          ← ed ∙ bytes-room-is s vs bs ss ns ms ps,
+          ← em′,
+        ))
 
   -- what an accepted column knows
   pub record Taken : Type 0 where
@@ -359,7 +376,8 @@ module _ (s : State) (vs bs ss ns ms ps cv cb cs cl cn : List ℕ) (c : Column) 
         small = rw e (r .4);
       }
 
-  pub taking : Taken → (t : State) (bytes starts lens : ℕ) → t ≡ closed s → bytes ≡ length bs → starts ≡ length ss → lens ≡ length ns → Taking bytes starts lens (t .blocks) (t .base) cb cs cl (c .blocks)
+  pub taking : Taken → (t : State) (bytes starts lens : ℕ) → t ≡ closed s → bytes ≡ length bs → starts ≡ length ss → lens ≡ length ns
+      → Taking bytes starts lens (t .blocks) (t .base) cb cs cl (c .blocks)
   unfolding closed
   taking k t bytes starts lens e eb es en =
       let b : t .blocks ≡ allBlocks s = ap (λ (z : State). z .blocks) e in
@@ -374,7 +392,8 @@ module _ (s : State) (vs bs ss ns ms ps cv cb cs cl cn : List ℕ) (c : Column) 
         lie = k .lie;
       }
 
-  pub does-column : (w : Why) (t : State) {u : State} {some : Bool} {end : ℕ} {ss₁ ns₁ vs′ bs′ ss′ ns′ ms′ : List ℕ} → w ≡ whyColumn from c here → isAccepted w ≡ true → t ≡ closed s
+  pub does-column : (w : Why) (t : State) {u : State} {some : Bool} {end : ℕ} {ss₁ ns₁ vs′ bs′ ss′ ns′ ms′ : List ℕ} → w ≡ whyColumn from c here
+      → isAccepted w ≡ true → t ≡ closed s
       → ss₁ ≡ openStarts s ss → ns₁ ≡ openLens s ns
       → end ≡ endFrom (blockBytes from) (c .blocks) (t .base)
       → bs′ ≡ putData (blockBytes from) (c .blocks) bs (t .base)
@@ -395,11 +414,14 @@ module _ (s : State) (vs bs ss ns ms ps cv cb cs cl cn : List ℕ) (c : Column) 
       let k : allBlocks s + m ≤ length T = omega (arith, size, j .starts, j .lens) in
       let base : t .base ≡ used s = ap (λ (z : State). z .base) et in
       let blocks : t .blocks ≡ allBlocks s = ap (λ (z : State). z .blocks) et in
-      let flag : some ≡ nulledBy (λ q. bits.validAt cn (c .mapped) (c .first + q)) (c .rows) (s .nulled) = en′ ∙ nulled-is cn (c .mapped) (c .first) (c .rows) (s .nulled) in
+      let flag : some ≡ nulledBy (λ q. bits.validAt cn (c .mapped) (c .first + q)) (c .rows) (s .nulled) = en′ ∙ nulled-is cn (c .mapped) (c .first)
+      (c .rows) (s .nulled) in
       let o1 : ss₁ ≡ startsOf T ss = e1 ∙ recorded-starts s vs bs ss ns ms (j .fit .starts) (j .fit .lens) in
       let o2 : ns₁ ≡ lensOf T ns = e2 ∙ recorded-lens s vs bs ss ns ms (j .fit .starts) (j .fit .lens) in
-      does-put (whyColumn from c) (putColumn from c) s vs bs ss ns ms ps (rowsOn (c .rows) (allBlocks s) from c (blocksOn m f (complete here))) (is-accepted w (whyColumn from c here) e h)
-      (sym (add-column (c .rows) (allBlocks s) from c (layBlocks m f (complete here)) ∙ ap (rowsOn (c .rows) (allBlocks s) from c) (lay-blocks m f (complete here))))
+      does-put (whyColumn from c) (putColumn from c) s vs bs ss ns ms ps (rowsOn (c .rows) (allBlocks s) from c (blocksOn m f (complete here)))
+      (is-accepted w (whyColumn from c here) e h)
+      (sym (add-column (c .rows) (allBlocks s) from c (layBlocks m f (complete here)) ∙ ap (rowsOn (c .rows) (allBlocks s) from c)
+      (lay-blocks m f (complete here))))
       (eu ∙ (λ i. columnMore (c .rows) m ((ee ∙ ap (endFrom f m) base) i) (flag i) (et i)))
       (ev ∙ ap (λ (z : ℕ). putFrom (λ q. renumbered z (viewAt cv (c .first + q))) (c .rows) vs (s .rows)) blocks)
       (eb ∙ ap (putData f m bs) base)

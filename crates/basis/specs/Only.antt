@@ -1,5 +1,5 @@
--- No second answer: whatever meets a function's own `ensures` on the same arguments is the same. `ps` and `r` of its Kinds are its parameters and its answer, `Post` of its Reads says its `ensures`.
--- Assumes nothing.
+-- No second answer: whatever meets a function's own `ensures` on the same arguments is the same. `ps` and `r` of its Kinds are its parameters and its
+-- answer, `Post` of its Reads says its `ensures`. Assumes nothing.
 use mathlib.Core.Path.{_≡_}
 use mathlib.Core.List.{List}
 use Prim.Native.Nat.{ℕ}

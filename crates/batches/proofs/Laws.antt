@@ -20,7 +20,8 @@ module _ (l : Lent) (c : Column) where
   unfolding lessRows
   less-none = refl
 
-  pub less-more : (k n x y : ℕ) → n ≡ lessRows l c k → x ≡ comparedNumber (compareRows l c k l c (k + 1)) → y ≡ pick (eqb x 0) 1 0 → n + y ≡ lessRows l c (k + 1)
+  pub less-more : (k n x y : ℕ) → n ≡ lessRows l c k → x ≡ comparedNumber (compareRows l c k l c (k + 1)) → y ≡ pick (eqb x 0) 1 0
+      → n + y ≡ lessRows l c (k + 1)
   unfolding lessRows
   less-more k n x y pn px py = rw (add-one k, ← pn, ← px, ← py)
 

@@ -48,10 +48,12 @@ module _ {M : Type 1} (𝓤 : URA M) (H : Heap 𝓤) (A : Atoms 𝓤) (mem : Mem
     to = (((κ, tt), (q, tt), tt, args, (slice-vals x, (slice-vals t, (column-val c ∷ [], (vint w64 row ∷ [], tt))))), tt)
 
     pub asked : (W : Given 𝓤 H A) → Is K.the-row c (column-val c ∷ []) → row < 2 ^ 64
-        → ent 𝓤 (⋆ 𝓤 H A ((‵ (flft κ q) ⊛ ‵ ftrue) ∷ ‵ (ShrSlice (named 0) κ u8 .own x (slice-vals x)) ∷ ‵ (ShrSlice (named 0) κ T.the-row .own t (slice-vals t)) ∷ [])) (Look .pre to)
+        → ent 𝓤 (⋆ 𝓤 H A ((‵ (flft κ q) ⊛ ‵ ftrue) ∷ ‵ (ShrSlice (named 0) κ u8 .own x (slice-vals x)) ∷ ‵ (ShrSlice (named 0) κ T.the-row .own t
+        (slice-vals t)) ∷ [])) (Look .pre to)
     asked W gc gr =
         qed W ((‵ (flft κ q) ⊛ ‵ ftrue) ∷ ‵ (ShrSlice (named 0) κ u8 .own x (slice-vals x)) ∷ ‵ (ShrSlice (named 0) κ T.the-row .own t (slice-vals t)) ∷ []) ∵
-        nothing ! $ owned ! usize (Is usize) (uint-makes 𝓤 H A W w64) row _ (refl, gr) $ fjoin ! $ owned ! K.the-row (Is K.the-row) (LL.makes K.the-type K′.the-plain 𝓤 H A) c _ gc $ fjoin ! $
+        nothing ! $ owned ! usize (Is usize) (uint-makes 𝓤 H A W w64) row _ (refl, gr) $ fjoin ! $ owned ! K.the-row (Is K.the-row)
+        (LL.makes K.the-type K′.the-plain 𝓤 H A) c _ gc $ fjoin ! $
         move ! (3 ∷ 0 ∷ []) $ fjoin ! $ move ! (2 ∷ 0 ∷ []) $ fjoin ! $ move ! (1 ∷ 0 ∷ []) $ join ! $ frame ! $ done !
 
     pub said : (s : Seen) → ent 𝓤 (ensured 𝓤 H A G.ended (G.clauses 𝓤 H A mem run) (κ, tt) args tt s) (fact 𝓤 (Sees (now t) (now x) (c .first + row) s))

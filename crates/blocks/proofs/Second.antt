@@ -1,4 +1,5 @@
--- No second answer to any call over records, and none to a step of the walk; of a part, also which one it is. These are walked by hand, so the theorem is over their clauses. Assumes nothing.
+-- No second answer to any call over records, and none to a step of the walk; of a part, also which one it is. These are walked by hand, so the
+-- theorem is over their clauses. Assumes nothing.
 use mathlib.Core.Path.{_≡_, sym, _∙_}
 use mathlib.Core.List.{List}
 use Prim.Native.Nat.{ℕ}
@@ -34,7 +35,8 @@ module _ {M : Type 1} (𝓤 : URA M) where
   second {P} {P′} {R} {Met} {Met′} s s′ f =
       via 𝓤 (sep 𝓤 (fact 𝓤 P) (fact 𝓤 P′)) (mono∗ 𝓤 {P = Met} {P′ = fact 𝓤 P} {Q = Met′} {Q′ = fact 𝓤 P′} s s′)
       (fact-use 𝓤 {P = sep 𝓤 (fact 𝓤 P) (fact 𝓤 P′)} {Q = fact 𝓤 R} P (fst∗ 𝓤 (fact 𝓤 P) (fact 𝓤 P′))
-      (λ p. fact-use 𝓤 {P = sep 𝓤 (fact 𝓤 P) (fact 𝓤 P′)} {Q = fact 𝓤 R} P′ (snd∗ 𝓤 (fact 𝓤 P) (fact 𝓤 P′)) (λ q. factI 𝓤 R (sep 𝓤 (fact 𝓤 P) (fact 𝓤 P′)) (f p q))))
+      (λ p. fact-use 𝓤 {P = sep 𝓤 (fact 𝓤 P) (fact 𝓤 P′)} {Q = fact 𝓤 R} P′ (snd∗ 𝓤 (fact 𝓤 P) (fact 𝓤 P′))
+      (λ q. factI 𝓤 R (sep 𝓤 (fact 𝓤 P) (fact 𝓤 P′)) (f p q))))
 
 module _ {M : Type 1} (𝓤 : URA M) (H : Heap 𝓤) (A : Atoms 𝓤) (mem : Memory → SProp 𝓤) (run : Routine → Fun 𝓤) (κ : Lft) where
   module _ (t : RefT (List Block)) where
@@ -104,7 +106,8 @@ module _ {M : Type 1} (𝓤 : URA M) (H : Heap 𝓤) (A : Atoms 𝓤) (mem : Mem
 
         compares : (o : Compared) → ent 𝓤 (Compares o) (fact 𝓤 (Says o))
         compares o =
-            exE 𝓤 _ (λ ws. snd∗ 𝓤 (sem 𝓤 H A (lasts Compare.ended (κ, tt) (x, (y, (t, (z, (c, (row, (x2, (y2, (t2, (z2, (d, (j, tt)))))))))))) ws)) (fact 𝓤 (Says o)))
+            exE 𝓤 _ (λ ws. snd∗ 𝓤 (sem 𝓤 H A (lasts Compare.ended (κ, tt) (x, (y, (t, (z, (c, (row, (x2, (y2, (t2, (z2, (d, (j, tt)))))))))))) ws))
+            (fact 𝓤 (Says o)))
 
         pub one-order : (o o′ : Compared) → ent 𝓤 (sep 𝓤 (Compares o) (Compares o′)) (fact 𝓤 (o ≡ o′))
         one-order o o′ = second 𝓤 (compares o) (compares o′) (λ p q. p ∙ sym q)

@@ -66,12 +66,14 @@ module _ (l : Lent) (c : Column) where
     unfolding whyInvalid
     check-row h =
         refuse-no Fit (not (fits l c)) _ (Refused (BadView k)) (ap not fit)
-        (lowest-bad (trueAt (c .kind) l c) k (c .rows) blocked h (λ j g. sym (holds-row j (omega arith)) ∙ s .passed j g) (sym (holds-row k h) ∙ s .stops (omega arith)))
+        (lowest-bad (trueAt (c .kind) l c) k (c .rows) blocked h (λ j g. sym (holds-row j (omega arith)) ∙ s .passed j g) (sym (holds-row k h)
+        ∙ s .stops (omega arith)))
 
     rows-true : c .rows ≤ k → (w : Why) → w ≡ blocked → w ≡ whyInvalid l c
     unfolding whyInvalid
     rows-true h w e =
-        refuse-no Fit (not (fits l c)) _ w (ap not fit) (e ∙ lowest-none (trueAt (c .kind) l c) (c .rows) blocked (λ j g. sym (holds-row j g) ∙ s .passed j (omega arith)))
+        refuse-no Fit (not (fits l c)) _ w (ap not fit) (e ∙ lowest-none (trueAt (c .kind) l c) (c .rows) blocked (λ j g. sym (holds-row j g)
+        ∙ s .passed j (omega arith)))
 
     pub check-block : c .rows ≤ k → k - c .rows < c .blocks → Refused Range ≡ whyInvalid l c
     check-block h g =
@@ -85,7 +87,8 @@ module _ (l : Lent) (c : Column) where
 
 -- ---- the answer on a place, by the record b that it asks for
 
-module _ (views bytes : List ℕ) (table : List Block) (c : Column) (places k p : ℕ) (b : Block) (asks : Asks views c k p) (e : b ≡ getD table p (block 0 0)) (r : Bool) where
+module _ (views bytes : List ℕ) (table : List Block) (c : Column) (places k p : ℕ) (b : Block) (asks : Asks views c k p) (e : b
+    ≡ getD table p (block 0 0)) (r : Bool) where
   pub past-places : places ≤ k → r ≡ false → Answers views bytes table c places k r
   past-places h f = record { below = λ t. never (sym f ∙ t); right = λ nulls room g. absurd (omega arith) }
 
@@ -97,23 +100,27 @@ module _ (views bytes : List ℕ) (table : List Block) (c : Column) (places k p 
   block-answer h g f =
       record {
         below = λ t. h;
-        right = λ nulls room i. f ∙ ap (inData (buffers views bytes table nulls)) (e ∙ ap (λ (j : ℕ). getD table j (block 0 0)) (asks .block g)) ∙ sym (holds-block (buffers views bytes table nulls) c k g);
+        right = λ nulls room i. f ∙ ap (inData (buffers views bytes table nulls)) (e ∙ ap (λ (j : ℕ). getD table j (block 0 0)) (asks .block g))
+            ∙ sym (holds-block (buffers views bytes table nulls) c k g);
       }
 
   pub row-answer : k < places → k < c .rows → viewSize * (c .first + k) + viewSize ≤ length views
-      → ((ts : List Block) (nulls : List ℕ) → Names ts (c .blocks) (viewAt views (c .first + k)) b → r ≡ isTrue (buffers views bytes ts nulls) (c .kind) (c .blocks) (viewAt views (c .first + k)))
+      → ((ts : List Block) (nulls : List ℕ) → Names ts (c .blocks) (viewAt views (c .first + k)) b → r ≡ isTrue (buffers views bytes ts nulls)
+      (c .kind) (c .blocks) (viewAt views (c .first + k)))
       → Answers views bytes table c places k r
   row-answer h g room f =
       record {
         below = λ t. h;
-        right = λ nulls _ i. f table nulls (λ long named. e ∙ ap (λ (j : ℕ). getD table j (block 0 0)) (asks .row g room)) ∙ sym (holds-row (buffers views bytes table nulls) c k g);
+        right = λ nulls _ i. f table nulls (λ long named. e ∙ ap (λ (j : ℕ). getD table j (block 0 0)) (asks .row g room))
+            ∙ sym (holds-row (buffers views bytes table nulls) c k g);
       }
 
 -- ---- from place to place
 
 module _ (views bytes : List ℕ) (table : List Block) (c : Column) (places : ℕ) where
   abbrev pub Passed : ℕ → Type 0
-  Passed k = (k ≤ places) × ((nulls : List ℕ) → viewSize * (c .first + c .rows) ≤ length views → (j : ℕ) → j < k → holdsAt (buffers views bytes table nulls) c j ≡ true)
+  Passed k = (k ≤ places) × ((nulls : List ℕ) → viewSize * (c .first + c .rows) ≤ length views → (j : ℕ) → j < k
+      → holdsAt (buffers views bytes table nulls) c j ≡ true)
 
   pub passed-none : Passed 0
   passed-none = (omega arith, λ nulls room j h. absurd (not-suc-le-zero h))
@@ -127,7 +134,8 @@ module _ (views bytes : List ℕ) (table : List Block) (c : Column) (places : �
     pub found : r ≡ false → Found views bytes table c places k
     found f = record { most = before .0; passed = before .1; stops = λ nulls room h. sym (a .right nulls room h) ∙ f }
 
-pub stopped : (views bytes nulls : List ℕ) (table : List Block) (c : Column) (count places k : ℕ) → Counted views nulls c count places → count ≡ length table → Found views bytes table c places k
+pub stopped : (views bytes nulls : List ℕ) (table : List Block) (c : Column) (count places k : ℕ) → Counted views nulls c count places
+    → count ≡ length table → Found views bytes table c places k
     → fits (buffers views bytes table nulls) c ≡ true → Stopped (buffers views bytes table nulls) c k
 stopped views bytes nulls table c count places k counted is f fit =
     let all = counted .all bytes table is fit in

@@ -26,7 +26,8 @@ pub accepted-low : (l : Lent) (c : Column) (r : ℕ) → isAccepted (whyValue l 
 unfolding fits rowRoom
 accepted-low l c r h =
     let g = value-readable l c r h in
-    let f = leb-true (c .first + c .rows) (rowRoom (c .mapped) l) (and-left (leb (c .first + c .rows) (rowRoom (c .mapped) l)) (leb (c .blocks) (blockRoom l)) (g .fit)) in
+    let f = leb-true (c .first + c .rows) (rowRoom (c .mapped) l) (and-left (leb (c .first + c .rows) (rowRoom (c .mapped) l))
+    (leb (c .blocks) (blockRoom l)) (g .fit)) in
     let k = g .row in omega arith
 
 -- the place after a row by its verdict: the next one where its value is accepted

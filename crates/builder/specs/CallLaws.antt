@@ -34,31 +34,39 @@ unfolding roomOfBytes
 bytes-room-le n = omega arith
 
 module _ (s : State) (vs bs ss ns ms ps x : List ℕ) where
-  pub does-short : {s′ : State} {vs′ ms′ : List ℕ} → length x ≤ shortMost → s′ ≡ rowed true s → vs′ ≡ paste vs (16 * s .rows) (shortView x) 16 → ms′ ≡ putBit ms (s .rows) true
+  pub does-short : {s′ : State} {vs′ ms′ : List ℕ} → length x ≤ shortMost → s′ ≡ rowed true s → vs′ ≡ paste vs (16 * s .rows) (shortView x) 16
+      → ms′ ≡ putBit ms (s .rows) true
       → Does (λ b. whyStore b x) (putValue x) s vs bs ss ns ms ps (answer Accepted s′) vs′ bs ss ns ms′ ps
   unfolding addRow
   does-short h st v nu =
-      does-put (λ b. whyStore b x) (putValue x) s vs bs ss ns ms ps (addRow (shortView x) true (held s vs bs ss ns ms ps)) (store-short s vs bs ss ns ms ps x h) (put-short s vs bs ss ns ms ps x h) st v
+      does-put (λ b. whyStore b x) (putValue x) s vs bs ss ns ms ps (addRow (shortView x) true (held s vs bs ss ns ms ps)) (store-short s vs bs ss ns
+      ms ps x h) (put-short s vs bs ss ns ms ps x h) st v
       refl (sym (starts-same ss ns)) (sym (lens-same ss ns)) nu refl
 
-  module _ (f : Found) (fit : fitsState (held s vs bs ss ns ms ps) ≡ true) (e : f ≡ foundBy (s .merging) ps (showsRow s (bare vs bs ss ns) x) x) (long : shortMost < length x) where
+  module _ (f : Found) (fit : fitsState (held s vs bs ss ns ms ps) ≡ true) (e : f ≡ foundBy (s .merging) ps (showsRow s (bare vs bs ss ns) x) x)
+      (long : shortMost < length x) where
     is : f ≡ found (held s vs bs ss ns ms ps) x
     is = e ∙ found-is s vs bs ss ns ms ps x fit
 
-    pub does-row : (t : Bool) (r : ℕ) {s′ : State} {vs′ ms′ : List ℕ} → t ≡ isRow f → t ≡ true → r ≡ rowOf f → s′ ≡ rowed true s → vs′ ≡ paste vs (16 * s .rows) (viewAt vs r) 16
+    pub does-row : (t : Bool) (r : ℕ) {s′ : State} {vs′ ms′ : List ℕ} → t ≡ isRow f → t ≡ true → r ≡ rowOf f → s′ ≡ rowed true s
+        → vs′ ≡ paste vs (16 * s .rows) (viewAt vs r) 16
         → ms′ ≡ putBit ms (s .rows) true → Does (λ b. whyStore b x) (putValue x) s vs bs ss ns ms ps (answer Accepted s′) vs′ bs ss ns ms′ ps
     unfolding addRow
     does-row t r et h er st v nu =
-        does-put (λ b. whyStore b x) (putValue x) s vs bs ss ns ms ps (addRow (viewAt vs (rowOf f)) true (held s vs bs ss ns ms ps)) (store-row s vs bs ss ns ms ps x f is long (sym et ∙ h))
+        does-put (λ b. whyStore b x) (putValue x) s vs bs ss ns ms ps (addRow (viewAt vs (rowOf f)) true (held s vs bs ss ns ms ps))
+        (store-row s vs bs ss ns ms ps x f is long (sym et ∙ h))
         (put-row s vs bs ss ns ms ps x f is long (sym et ∙ h)) st (v ∙ ap (λ (z : ℕ). paste vs (16 * s .rows) (viewAt vs z) 16) er)
         refl (sym (starts-same ss ns)) (sym (lens-same ss ns)) nu refl
 
-    module _ (t : Bool) (et : t ≡ isRow f) (h : t ≡ false) (w : Why) (blocks bytes : ℕ) (eb : blocks ≡ roomOfBlocks (length ss) (length ns)) (ed : bytes ≡ roomOfBytes (length bs))
+    module _ (t : Bool) (et : t ≡ isRow f) (h : t ≡ false) (w : Why) (blocks bytes : ℕ) (eb : blocks ≡ roomOfBlocks (length ss) (length ns))
+        (ed : bytes ≡ roomOfBytes (length bs))
         (ew : w ≡ whyLay s blocks bytes (length x)) where
       pub lay-is : w ≡ whyStore (held s vs bs ss ns ms ps) x
-      lay-is = ew ∙ rw (eb ∙ blocks-room-is s vs bs ss ns ms ps, ed ∙ bytes-room-is s vs bs ss ns ms ps) (store-lay s vs bs ss ns ms ps x f is long (sym et ∙ h))
+      lay-is = ew ∙ rw (eb ∙ blocks-room-is s vs bs ss ns ms ps, ed ∙ bytes-room-is s vs bs ss ns ms ps) (store-lay s vs bs ss ns ms ps x f is long
+          (sym et ∙ h))
 
-      pub does-lay : (k : State) {s′ : State} {vs′ bs′ ss′ ns′ ms′ ps′ : List ℕ} → isAccepted w ≡ true → allBlocks s ≤ length ss → allBlocks s ≤ length ns → k ≡ roomed (length x) s
+      pub does-lay : (k : State) {s′ : State} {vs′ bs′ ss′ ns′ ms′ ps′ : List ℕ} → isAccepted w ≡ true → allBlocks s ≤ length ss
+          → allBlocks s ≤ length ns → k ≡ roomed (length x) s
           → s′ ≡ rowed true (laid (length x) k)
           → vs′ ≡ paste vs (16 * s .rows) (longView x (k .blocks) (k .fill)) 16
           → bs′ ≡ paste bs (k .base + k .fill) x (length x)
@@ -85,7 +93,8 @@ unfolding putValue putFound store makeRoom lay addRow
 put-rows x b = by (isShort (length x)) (isRow (found b x)) ∙ sym (add-one (b .state .rows))
   where
     by : (t u : Bool)
-        → pick t (addRow (shortView x) true b) (pick u (addRow (viewAt (b .lent .views) (rowOf (found b x))) true b) (store x (makeRoom (length x) (enter (found b x) b)))) .state .rows ≡ suc (b .state .rows)
+        → pick t (addRow (shortView x) true b) (pick u (addRow (viewAt (b .lent .views) (rowOf (found b x))) true b)
+        (store x (makeRoom (length x) (enter (found b x) b)))) .state .rows ≡ suc (b .state .rows)
     by true u = refl
     by false true = refl
     by false false = ap suc (room-rows (b .state) (length x))
@@ -95,7 +104,8 @@ pub put-none : (n : ℕ) (x : List ℕ) (b : Builder) → n ≡ 0 → b ≡ putV
 unfolding putValues
 put-none n x b e = rw (eq-eqb n 0 e)
 
-pub put-many : (n : ℕ) (x : List ℕ) (b : Builder) → (n ≡ 0 → ⊥) → addRows (n - 1) (viewAt (putValue x b .lent .views) (b .state .rows)) true (putValue x b) ≡ putValues n x b
+pub put-many : (n : ℕ) (x : List ℕ) (b : Builder) → (n ≡ 0 → ⊥) → addRows (n - 1) (viewAt (putValue x b .lent .views) (b .state .rows)) true
+    (putValue x b) ≡ putValues n x b
 unfolding putValues
 put-many n x b e = rw (ne-eqb n 0 e)
 

@@ -27,7 +27,8 @@ abbrev pub left : (Builder → Why) → (Builder → Builder) → Builder → Bu
 left why put b = outcome (why b) put b
 
 -- A call: its verdict beside the state that it leaves, and each buffer at exit, of the buffers at entry.
-pub record Does (why : Builder → Why) (put : Builder → Builder) (s : State) (vs bs ss ns ms ps : List ℕ) (r : Answer) (vs′ bs′ ss′ ns′ ms′ ps′ : List ℕ) : Type 0 where
+pub record Does (why : Builder → Why) (put : Builder → Builder) (s : State) (vs bs ss ns ms ps : List ℕ) (r : Answer) (vs′ bs′ ss′ ns′ ms′ ps′ : List
+    ℕ) : Type 0 where
   pub answers : r ≡ answer (why (held s vs bs ss ns ms ps)) (left why put (held s vs bs ss ns ms ps) .state)
   pub views : vs′ ≡ left why put (held s vs bs ss ns ms ps) .lent .views
   pub bytes : bs′ ≡ left why put (held s vs bs ss ns ms ps) .lent .bytes

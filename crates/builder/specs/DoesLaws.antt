@@ -85,7 +85,8 @@ module _ (why : Builder → Why) (put : Builder → Builder) (s : State) (vs bs 
 
   -- accepted: what it puts, field by field
   pub does-put : (e : Builder) {s′ : State} {vs′ bs′ ss′ ns′ ms′ ps′ : List ℕ} → why (held s vs bs ss ns ms ps) ≡ Accepted → e ≡ put (held s vs bs ss ns ms ps)
-      → s′ ≡ e .state → vs′ ≡ e .lent .views → bs′ ≡ e .lent .bytes → ss′ ≡ startsOf (e .lent .table) ss → ns′ ≡ lensOf (e .lent .table) ns → ms′ ≡ e .lent .nulls → ps′ ≡ e .places
+      → s′ ≡ e .state → vs′ ≡ e .lent .views → bs′ ≡ e .lent .bytes → ss′ ≡ startsOf (e .lent .table) ss → ns′ ≡ lensOf (e .lent .table) ns
+      → ms′ ≡ e .lent .nulls → ps′ ≡ e .places
       → Does why put s vs bs ss ns ms ps (answer Accepted s′) vs′ bs′ ss′ ns′ ms′ ps′
   does-put e d p st v by sta le nu pl =
       record {
@@ -111,7 +112,8 @@ module _ (why : Builder → Why) (put : Builder → Builder) (s : State) (vs bs 
       record { answers = rw d (ap (answer Accepted) st); views = rw d v; bytes = rw d by; starts = rw d sta; lens = rw d le; nulls = rw d nu; places = rw d pl }
 
 -- a call that on these buffers leaves what another leaves
-pub does-left : (why why′ : Builder → Why) (put put′ : Builder → Builder) (s : State) (vs bs ss ns ms ps : List ℕ) {r : Answer} {vs′ bs′ ss′ ns′ ms′ ps′ : List ℕ}
+pub does-left : (why why′ : Builder → Why) (put put′ : Builder → Builder) (s : State) (vs bs ss ns ms ps : List ℕ) {r : Answer}
+    {vs′ bs′ ss′ ns′ ms′ ps′ : List ℕ}
     → why (held s vs bs ss ns ms ps) ≡ why′ (held s vs bs ss ns ms ps) → left why put (held s vs bs ss ns ms ps) ≡ left why′ put′ (held s vs bs ss ns ms ps)
     → Does why put s vs bs ss ns ms ps r vs′ bs′ ss′ ns′ ms′ ps′ → Does why′ put′ s vs bs ss ns ms ps r vs′ bs′ ss′ ns′ ms′ ps′
 does-left why why′ put put′ s vs bs ss ns ms ps p e d =
@@ -126,12 +128,24 @@ does-left why why′ put put′ s vs bs ss ns ms ps p e d =
     }
 
 -- the same state by another name
-pub does-same : (why : Builder → Why) (put : Builder → Builder) (t s : State) (vs bs ss ns ms ps : List ℕ) {r : Answer} {vs′ bs′ ss′ ns′ ms′ ps′ : List ℕ} → t ≡ s
+pub does-same : (why : Builder → Why) (put : Builder → Builder) (t s : State) (vs bs ss ns ms ps : List ℕ) {r : Answer}
+    {vs′ bs′ ss′ ns′ ms′ ps′ : List ℕ} → t ≡ s
     → Does why put t vs bs ss ns ms ps r vs′ bs′ ss′ ns′ ms′ ps′ → Does why put s vs bs ss ns ms ps r vs′ bs′ ss′ ns′ ms′ ps′
-does-same why put t s vs bs ss ns ms ps {r} {vs′} {bs′} {ss′} {ns′} {ms′} {ps′} e d = subst (λ (z : State). Does why put z vs bs ss ns ms ps r vs′ bs′ ss′ ns′ ms′ ps′) e d
+does-same why put t s vs bs ss ns ms ps {r} {vs′} {bs′} {ss′} {ns′} {ms′} {ps′} e d = subst (λ (z : State). Does why put z vs bs ss ns ms ps r vs′ bs′
+    ss′ ns′ ms′ ps′) e d
 
 -- a state made of another's fields
 pub fields-same : (s : State) (k : Kind) (g : Growth) (m : Merging) → k ≡ s .kind → g ≡ s .growth → m ≡ s .merging
     → record { kind = k; growth = g; merging = m; rows = s .rows; blocks = s .blocks; base = s .base; fill = s .fill; cap = s .cap; nulled = s .nulled } ≡ s
 fields-same s k g m ek eg em =
-    λ i. record { kind = ek i; growth = eg i; merging = em i; rows = s .rows; blocks = s .blocks; base = s .base; fill = s .fill; cap = s .cap; nulled = s .nulled }
+    λ i. record {
+      kind = ek i;
+      growth = eg i;
+      merging = em i;
+      rows = s .rows;
+      blocks = s .blocks;
+      base = s .base;
+      fill = s .fill;
+      cap = s .cap;
+      nulled = s .nulled;
+    }

@@ -61,7 +61,8 @@ module _ (s : State) (vs bs ss ns ms ps x : List ℕ) (fit : fitsState (held s v
     unfolding recorded reachable reachOf inData dataRoom
     reach-same = refl
 
-    pub shown-same : shown (blocksOf (recorded s (bare vs bs ss ns)) (allBlocks s)) (viewAt vs r) ≡ shown (blocksOf (recorded s whole) (allBlocks s)) (viewAt vs r)
+    pub shown-same : shown (blocksOf (recorded s (bare vs bs ss ns)) (allBlocks s)) (viewAt vs r) ≡ shown (blocksOf (recorded s whole) (allBlocks s))
+        (viewAt vs r)
     unfolding recorded blocksOf
     shown-same = refl
 
@@ -69,7 +70,8 @@ module _ (s : State) (vs bs ss ns ms ps x : List ℕ) (fit : fitsState (held s v
     unfolding showsRow
     hits-is = go (leb (s .rows) r) (reachable (recorded s whole) (allBlocks s) (viewAt vs r)) refl refl
       where
-        go : (a c : Bool) → leb (s .rows) r ≡ a → reachable (recorded s whole) (allBlocks s) (viewAt vs r) ≡ c → showsRow s (bare vs bs ss ns) x r ≡ hits (held s vs bs ss ns ms ps) x r
+        go : (a c : Bool) → leb (s .rows) r ≡ a → reachable (recorded s whole) (allBlocks s) (viewAt vs r) ≡ c → showsRow s (bare vs bs ss ns) x r
+            ≡ hits (held s vs bs ss ns ms ps) x r
         go true c q z = rw (le-ltb r (s .rows) (leb-true (s .rows) r q), hits-late q)
         go false true q z = rw (lt-ltb r (s .rows) (leb-false (s .rows) r q), reach-same, z, shown-same, hits-reached q z)
         go false false q z = rw (lt-ltb r (s .rows) (leb-false (s .rows) r q), reach-same, z, hits-unreached q z)
@@ -220,7 +222,8 @@ module _ (s : State) (vs bs ss ns ms ps x : List ℕ) where
     unfolding whyStore
     store-row h = rw (lt-leb (length x) shortMost long, ← e, h)
 
-    pub store-lay : isRow f ≡ false → whyLay s (blockRoom (lent vs bs ss ns ms)) (dataRoom (lent vs bs ss ns ms)) (length x) ≡ whyStore (held s vs bs ss ns ms ps) x
+    pub store-lay : isRow f ≡ false → whyLay s (blockRoom (lent vs bs ss ns ms)) (dataRoom (lent vs bs ss ns ms)) (length x)
+        ≡ whyStore (held s vs bs ss ns ms ps) x
     unfolding whyStore
     store-lay h = rw (lt-leb (length x) shortMost long, ← e, h)
 
@@ -241,7 +244,15 @@ module _ (s : State) (vs bs ss ns ms ps x : List ℕ) where
     pub put-lay : isRow f ≡ false → stored ≡ putValue x (held s vs bs ss ns ms ps)
     unfolding putValue putFound store makeRoom lay addRow
     put-lay h =
-        rw (lt-leb (length x) shortMost long, ← e, h, room-rows s (length x), room-views (fitsOpen s (length x)) s vs bs (tableOf ss ns) ms, room-bytes (fitsOpen s (length x)) s vs bs (tableOf ss ns) ms, room-nulls (fitsOpen s (length x)) s vs bs (tableOf ss ns) ms)
+        rw (
+          lt-leb (length x) shortMost long,
+          ← e,
+          h,
+          room-rows s (length x),
+          room-views (fitsOpen s (length x)) s vs bs (tableOf ss ns) ms,
+          room-bytes (fitsOpen s (length x)) s vs bs (tableOf ss ns) ms,
+          room-nulls (fitsOpen s (length x)) s vs bs (tableOf ss ns) ms,
+        )
 
 -- room for the bytes where they are laid
 pub lay-room : (s : State) (blocks bytes n : ℕ) → isAccepted (whyLay s blocks bytes n) ≡ true → used s + n ≤ bytes

@@ -79,7 +79,8 @@ module _ (s : State) (vs bs ss ns ms ps : List ℕ) where
   bytes-room-is = refl
 
   -- rooms as the code has them
-  module _ (rows blocks bytes : ℕ) (er : rows ≡ roomOfRows (s .merging) (length vs) (length ms) (length ps)) (eb : blocks ≡ roomOfBlocks (length ss) (length ns))
+  module _ (rows blocks bytes : ℕ) (er : rows ≡ roomOfRows (s .merging) (length vs) (length ms) (length ps)) (eb : blocks ≡ roomOfBlocks (length ss)
+      (length ns))
       (ed : bytes ≡ roomOfBytes (length bs)) where
     pub fits-is : fitsRooms s rows blocks bytes ≡ fitsState (held s vs bs ss ns ms ps)
     unfolding fitsState
@@ -89,8 +90,10 @@ module _ (s : State) (vs bs ss ns ms ps : List ℕ) where
     unfolding whyNull
     null-is = rw (fits-is, er ∙ rows-room-is)
 
-    pub first-is : (x : List ℕ) (n : ℕ) → refuse Fit (not (fitsRooms s rows blocks bytes)) (pick (eqb n 0) Accepted (whyRow (s .kind) x (s .rows) n rows Accepted))
-        ≡ refuse Fit (not (fitsState (held s vs bs ss ns ms ps))) (pick (eqb n 0) Accepted (whyRow (s .kind) x (s .rows) n (rowsRoom (held s vs bs ss ns ms ps)) Accepted))
+    pub first-is : (x : List ℕ) (n : ℕ) → refuse Fit (not (fitsRooms s rows blocks bytes)) (pick (eqb n 0) Accepted (whyRow (s .kind) x (s .rows) n
+        rows Accepted))
+        ≡ refuse Fit (not (fitsState (held s vs bs ss ns ms ps))) (pick (eqb n 0) Accepted (whyRow (s .kind) x (s .rows) n
+        (rowsRoom (held s vs bs ss ns ms ps)) Accepted))
     first-is x n = rw (fits-is, er ∙ rows-room-is)
 
   -- what a state that fits keeps to

@@ -83,7 +83,8 @@ module _ (m : Merging) (places : List ℕ) (hit : ℕ → Bool) (x : List ℕ) w
 
 -- ---- the numbers of a block, the open one after the completed ones
 
-open-at : (b : Bool) (l : List ℕ) (blocks last k : ℕ) → k < pick b (suc blocks) blocks → pick b (suc blocks) blocks ≤ length l → ifLt k blocks (getD l k 0) last ≡ getD (pick b (set l blocks last) l) k 0
+open-at : (b : Bool) (l : List ℕ) (blocks last k : ℕ) → k < pick b (suc blocks) blocks → pick b (suc blocks) blocks ≤ length l
+    → ifLt k blocks (getD l k 0) last ≡ getD (pick b (set l blocks last) l) k 0
 open-at true l blocks last k h g =
     by-cases (ℕ-discrete k blocks)
     (λ e. sym (lt-no k blocks (getD l k 0) last (getD (set l blocks last) k 0) (omega arith) (rw e (getD-set-same l blocks last 0 (omega arith)))))
@@ -151,7 +152,8 @@ module _ (s : State) (vs bs ss ns x : List ℕ) (r : ℕ) where
         go : (b : Bool) → reachable there (allBlocks s) view ≡ b → false ≡ showsRow s (bare vs bs ss ns) x r
         go true q =
             let size : length (shown (blocksOf there (allBlocks s)) view) ≡ len =
-            length-shown vs bs (openStarts s ss) (openLens s ns) [] (allBlocks s) view in-starts in-lens (length-view vs r (omega (arith, rd .rows))) q ∙ sym e in
+            length-shown vs bs (openStarts s ss) (openLens s ns) [] (allBlocks s) view in-starts in-lens (length-view vs r (omega (arith, rd .rows)))
+            q ∙ sym e in
             rw (← shows-is, q, other-length (shown (blocksOf there (allBlocks s)) view) x len size d, lt-ltb r (s .rows) h)
         go false q = rw (← shows-is, q) (none (ltb r (s .rows)) (same (shown (blocksOf there (allBlocks s)) view) x))
 
@@ -159,7 +161,8 @@ module _ (s : State) (vs bs ss ns x : List ℕ) (r : ℕ) where
       pub shows-past : allBlocks s ≤ k → false ≡ showsRow s (bare vs bs ss ns) x r
       shows-past p = unreached NoBlock (reach-no-block there (allBlocks s) view (rw (← el) long) (rw (← ek) p)) refl
 
-      module _ (start size : ℕ) (hk : k < allBlocks s) (es : start ≡ ifLt k (s .blocks) (getD ss k 0) (s .base)) (ez : size ≡ ifLt k (s .blocks) (getD ns k 0) (s .fill)) where
+      module _ (start size : ℕ) (hk : k < allBlocks s) (es : start ≡ ifLt k (s .blocks) (getD ss k 0) (s .base)) (ez : size ≡ ifLt k (s .blocks)
+          (getD ns k 0) (s .fill)) where
         at-start : start ≡ getD (openStarts s ss) k 0
         at-start = es ∙ start-at s ss k hk (rd .starts)
 
@@ -169,20 +172,24 @@ module _ (s : State) (vs bs ss ns x : List ℕ) (r : ℕ) where
         pub shows-no-data : (t : Bool) → t ≡ inData (buffers [] bs [] []) (block start size) → t ≡ false → false ≡ showsRow s (bare vs bs ss ns) x r
         shows-no-data t e f =
             unreached Outside
-            (reach-no-data vs bs (openStarts s ss) (openLens s ns) [] (allBlocks s) view k ek (rw (← el) long) hk in-starts in-lens (rw (← at-start, ← at-size) (sym e ∙ f))) refl
+            (reach-no-data vs bs (openStarts s ss) (openLens s ns) [] (allBlocks s) view k ek (rw (← el) long) hk in-starts in-lens
+            (rw (← at-start, ← at-size) (sym e ∙ f))) refl
 
         module _ (t : Bool) (e : t ≡ inData (buffers [] bs [] []) (block start size)) (f : t ≡ true) (o : ℕ) (eo : o ≡ offsetOf view) where
           pub shows-over : size < o + len → false ≡ showsRow s (bare vs bs ss ns) x r
           shows-over p =
               unreached Outside
-              (reach-over vs bs (openStarts s ss) (openLens s ns) [] (allBlocks s) view k ek (rw (← el) long) hk in-starts in-lens (rw (← at-start, ← at-size) (sym e ∙ f))
+              (reach-over vs bs (openStarts s ss) (openLens s ns) [] (allBlocks s) view k ek (rw (← el) long) hk in-starts in-lens
+              (rw (← at-start, ← at-size) (sym e ∙ f))
               (rw (← eo, ← el, ← at-size) p)) refl
 
-          pub shows-here : (y : Bool) → o + len ≤ size → y ≡ same (take (start + o + len - (start + o)) (drop (start + o) bs)) x → y ≡ showsRow s (bare vs bs ss ns) x r
+          pub shows-here : (y : Bool) → o + len ≤ size → y ≡ same (take (start + o + len - (start + o)) (drop (start + o) bs)) x
+              → y ≡ showsRow s (bare vs bs ss ns) x r
           unfolding reachable
           shows-here y p q =
               let inside : Inside ≡ reachOf there (allBlocks s) view =
-              reach-inside vs bs (openStarts s ss) (openLens s ns) [] (allBlocks s) view k ek (rw (← el) long) hk in-starts in-lens (rw (← at-start, ← at-size) (sym e ∙ f))
+              reach-inside vs bs (openStarts s ss) (openLens s ns) [] (allBlocks s) view k ek (rw (← el) long) hk in-starts in-lens
+              (rw (← at-start, ← at-size) (sym e ∙ f))
               (rw (← eo, ← el, ← at-size) p) in
               let reached : reachable there (allBlocks s) view ≡ true = ap isInside (sym inside) in
               let is : take (start + o + len - (start + o)) (drop (start + o) bs) ≡ shown (blocksOf there (allBlocks s)) view =

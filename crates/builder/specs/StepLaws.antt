@@ -65,7 +65,8 @@ module _ (s : State) (blocks bytes n : ℕ) where
   unfolding whyLay refuse
   lay-no-block t e h = rw (← e, h)
 
-  pub lay-no-data : (t : Bool) → t ≡ not (fitsOpen s n) && leb blocks (allBlocks s) → t ≡ false → bytes < used s + n → Refused DataRoom ≡ whyLay s blocks bytes n
+  pub lay-no-data : (t : Bool) → t ≡ not (fitsOpen s n) && leb blocks (allBlocks s) → t ≡ false → bytes < used s + n → Refused DataRoom
+      ≡ whyLay s blocks bytes n
   unfolding whyLay refuse
   lay-no-data t e h g = rw (← e, h, lt-ltb bytes (used s + n) g)
 
@@ -77,6 +78,7 @@ module _ (s : State) (blocks bytes n : ℕ) where
       by true = omega (arith, all-bounds s)
       by false = h
 
-  pub lay-fine : (t : Bool) → t ≡ not (fitsOpen s n) && leb blocks (allBlocks s) → t ≡ false → used s + n ≤ bytes → allBlocks s < 2 ^ 32 → Accepted ≡ whyLay s blocks bytes n
+  pub lay-fine : (t : Bool) → t ≡ not (fitsOpen s n) && leb blocks (allBlocks s) → t ≡ false → used s + n ≤ bytes → allBlocks s < 2 ^ 32 → Accepted
+      ≡ whyLay s blocks bytes n
   unfolding whyLay refuse
   lay-fine t e h g k = rw (← e, h, le-ltb bytes (used s + n) g, lt-leb (2 ^ 32) (blockFor s n) (small-number k))

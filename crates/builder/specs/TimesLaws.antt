@@ -25,7 +25,8 @@ abbrev pub rowedBy : ℕ → State → State
 rowedBy n s = moved s (s .growth) (s .rows + n) (s .blocks) (s .base) (s .fill) (s .cap) (s .nulled)
 
 pub add-rows : (n : ℕ) (v : List ℕ) (b : Builder) → addRows n v true b
-    ≡ builder (rowedBy n (b .state)) (buffers (putCopies (b .lent .views) (b .state .rows) v n) (b .lent .bytes) (b .lent .table) (putRun (b .lent .nulls) (b .state .rows) n true)) (b .places)
+    ≡ builder (rowedBy n (b .state)) (buffers (putCopies (b .lent .views) (b .state .rows) v n) (b .lent .bytes) (b .lent .table)
+    (putRun (b .lent .nulls) (b .state .rows) n true)) (b .places)
 unfolding addRows addRow putCopies putBits
 add-rows zero v b =
     let s = b .state in

@@ -65,7 +65,8 @@ module _ (why : Builder → Why) (put : Builder → Builder) (l vs bs ss ns ms p
   pub told-left : (t : Told) → t ≡ told (a .why) → t ≡ told (why b)
   told-left t p = p ∙ ap (λ (x : Answer). told (x .why)) (does .answers)
 
-  pub column-left : (c d : Column) (n : Column) (k k′ : List ℕ) → c ≡ ifAccepted (why (held s vs bs ss ns ms ps)) d n → k′ ≡ ifAccepted (a .why) (columnNumbers c) k
+  pub column-left : (c d : Column) (n : Column) (k k′ : List ℕ) → c ≡ ifAccepted (why (held s vs bs ss ns ms ps)) d n
+      → k′ ≡ ifAccepted (a .why) (columnNumbers c) k
       → k′ ≡ ifAccepted (why (held s vs bs ss ns ms ps)) (columnNumbers d) k
   column-left c d′ n k k′ p q = q ∙ ap (λ (x : Answer). ifAccepted (x .why) (columnNumbers c) k) (d .answers) ∙ by (why (held s vs bs ss ns ms ps)) p
     where
@@ -129,7 +130,17 @@ module _ (k n : ℕ) where
 
 module _ (l : List ℕ) (k : Kind) (m : Merging) where
   pub state-is : (g : Growth) → k ≡ kindOf (getD l 0 0) → g ≡ growthOf (getD l 1 0) (getD l 2 0) → m ≡ mergingOf (getD l 3 0) (getD l 4 0)
-      → record { kind = k; growth = g; merging = m; rows = getD l 5 0; blocks = getD l 6 0; base = getD l 7 0; fill = getD l 8 0; cap = getD l 9 0; nulled = not (eqb (getD l 10 0) 0) } ≡ stateOf l
+      → record {
+        kind = k;
+        growth = g;
+        merging = m;
+        rows = getD l 5 0;
+        blocks = getD l 6 0;
+        base = getD l 7 0;
+        fill = getD l 8 0;
+        cap = getD l 9 0;
+        nulled = not (eqb (getD l 10 0) 0);
+      } ≡ stateOf l
   unfolding stateOf
   state-is g p q r = rw (p, q, r)
 
@@ -143,13 +154,15 @@ pub column-is : (l : List ℕ) (k : Kind) → k ≡ kindOf (getD l 3 0)
 unfolding columnFrom
 column-is l k p = rw p
 
-pub numbers-are : (s : State) (k g z m u f : ℕ) → k ≡ kindNumber (s .kind) → g ≡ growthNumber (s .growth) → z ≡ growthSize (s .growth) → m ≡ mergingNumber (s .merging)
+pub numbers-are : (s : State) (k g z m u f : ℕ) → k ≡ kindNumber (s .kind) → g ≡ growthNumber (s .growth) → z ≡ growthSize (s .growth)
+    → m ≡ mergingNumber (s .merging)
     → u ≡ mergingMost (s .merging) → f ≡ flag (s .nulled)
     → k ∷ g ∷ z ∷ m ∷ u ∷ s .rows ∷ s .blocks ∷ s .base ∷ s .fill ∷ s .cap ∷ f ∷ [] ≡ numbersOf s
 unfolding numbersOf
 numbers-are s k g z m u f a b c d e h = λ i. a i ∷ b i ∷ c i ∷ d i ∷ e i ∷ s .rows ∷ s .blocks ∷ s .base ∷ s .fill ∷ s .cap ∷ h i ∷ []
 
-pub column-numbers-are : (c : Column) (k f : ℕ) → k ≡ kindNumber (c .kind) → f ≡ flag (c .mapped) → c .first ∷ c .rows ∷ c .blocks ∷ k ∷ f ∷ [] ≡ columnNumbers c
+pub column-numbers-are : (c : Column) (k f : ℕ) → k ≡ kindNumber (c .kind) → f ≡ flag (c .mapped) → c .first ∷ c .rows ∷ c .blocks ∷ k ∷ f ∷ []
+    ≡ columnNumbers c
 unfolding columnNumbers
 column-numbers-are c k f a b = λ i. c .first ∷ c .rows ∷ c .blocks ∷ a i ∷ b i ∷ []
 

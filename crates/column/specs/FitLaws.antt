@@ -82,7 +82,8 @@ module _ (views bytes starts lens nulls : List ℕ) where
   abbrev tabled : Lent
   tabled = lent views bytes starts lens nulls
 
-  pub block-in-data : (k : ℕ) → k < length starts → k < length lens → inData (buffers [] bytes [] []) (block (getD starts k 0) (getD lens k 0)) ≡ inData tabled (blockAt tabled k)
+  pub block-in-data : (k : ℕ) → k < length starts → k < length lens → inData (buffers [] bytes [] []) (block (getD starts k 0) (getD lens k 0))
+      ≡ inData tabled (blockAt tabled k)
   unfolding inData dataRoom
   block-in-data k h g = rw (table-at starts lens k h g)
 
@@ -90,16 +91,19 @@ module _ (views bytes starts lens nulls : List ℕ) where
   unfolding allInData
   all-none = refl
 
-  pub all-more : (k : ℕ) → k < length starts → k < length lens → allInData tabled k ≡ true → inData (buffers [] bytes [] []) (block (getD starts k 0) (getD lens k 0)) ≡ true → allInData tabled (k + 1) ≡ true
+  pub all-more : (k : ℕ) → k < length starts → k < length lens → allInData tabled k ≡ true → inData (buffers [] bytes [] [])
+      (block (getD starts k 0) (getD lens k 0)) ≡ true → allInData tabled (k + 1) ≡ true
   unfolding allInData
   all-more k h g a i = rw (add-one k, a, ← block-in-data k h g, i)
 
-  pub all-not : (k n : ℕ) → k < n → k < length starts → k < length lens → inData (buffers [] bytes [] []) (block (getD starts k 0) (getD lens k 0)) ≡ false → false ≡ allInData tabled n
+  pub all-not : (k n : ℕ) → k < n → k < length starts → k < length lens → inData (buffers [] bytes [] []) (block (getD starts k 0) (getD lens k 0))
+      ≡ false → false ≡ allInData tabled n
   unfolding allInData
   all-not k zero l h g i = absurd (not-suc-le-zero l)
   all-not k (suc n) l h g i =
       by-cases (ℕ-discrete k n)
-      (λ e. and-no (allInData tabled n) (inData tabled (blockAt tabled n)) (subst (λ (j : ℕ). inData tabled (blockAt tabled j) ≡ false) e (sym (block-in-data k h g) ∙ i)))
+      (λ e. and-no (allInData tabled n) (inData tabled (blockAt tabled n)) (subst (λ (j : ℕ). inData tabled (blockAt tabled j) ≡ false) e
+      (sym (block-in-data k h g) ∙ i)))
       (λ d. rw (← all-not k n (omega arith) h g i))
 
   -- neither the views nor the null map is asked
@@ -157,14 +161,16 @@ module _ (views bytes nulls : List ℕ) (table : List Block) (c : Column) where
   pub fits-view : (r : ℕ) → fits l c ≡ true → r < c .rows → viewSize * (c .first + r) + viewSize ≤ length views
   unfolding fits rowRoom
   fits-view r h k =
-      let f = leb-true (c .first + c .rows) (rowRoom (c .mapped) l) (and-left (leb (c .first + c .rows) (rowRoom (c .mapped) l)) (leb (c .blocks) (blockRoom l)) h) in
+      let f = leb-true (c .first + c .rows) (rowRoom (c .mapped) l) (and-left (leb (c .first + c .rows) (rowRoom (c .mapped) l))
+      (leb (c .blocks) (blockRoom l)) h) in
       omega arith
 
   -- and below the limit
   pub fits-limit : (r : ℕ) → fits l c ≡ true → r < c .rows → c .first + r < rowLimit
   unfolding fits rowRoom
   fits-limit r h k =
-      let f = leb-true (c .first + c .rows) (rowRoom (c .mapped) l) (and-left (leb (c .first + c .rows) (rowRoom (c .mapped) l)) (leb (c .blocks) (blockRoom l)) h) in
+      let f = leb-true (c .first + c .rows) (rowRoom (c .mapped) l) (and-left (leb (c .first + c .rows) (rowRoom (c .mapped) l))
+      (leb (c .blocks) (blockRoom l)) h) in
       omega arith
 
 module _ (views bytes starts lens nulls : List ℕ) (c : Column) where
@@ -173,11 +179,13 @@ module _ (views bytes starts lens nulls : List ℕ) (c : Column) where
 
   row-room : fits buffered c ≡ true → c .first + c .rows ≤ min rowLimit (min (length views / 16) (mapRoom (c .mapped) nulls))
   unfolding fits rowRoom
-  row-room h = leb-true (c .first + c .rows) (rowRoom (c .mapped) buffered) (and-left (leb (c .first + c .rows) (rowRoom (c .mapped) buffered)) (leb (c .blocks) (blockRoom buffered)) h)
+  row-room h = leb-true (c .first + c .rows) (rowRoom (c .mapped) buffered) (and-left (leb (c .first + c .rows) (rowRoom (c .mapped) buffered))
+      (leb (c .blocks) (blockRoom buffered)) h)
 
   block-room : fits buffered c ≡ true → c .blocks ≤ min blockLimit (min (length starts) (length lens))
   unfolding fits blockRoom
-  block-room h = rw (← length-table starts lens) (leb-true (c .blocks) (blockRoom buffered) (and-right (leb (c .first + c .rows) (rowRoom (c .mapped) buffered)) (leb (c .blocks) (blockRoom buffered)) h))
+  block-room h = rw (← length-table starts lens) (leb-true (c .blocks) (blockRoom buffered)
+      (and-right (leb (c .first + c .rows) (rowRoom (c .mapped) buffered)) (leb (c .blocks) (blockRoom buffered)) h))
 
   pub fits-gives : fits buffered c ≡ true → Fitting views starts lens nulls c
   fits-gives h =

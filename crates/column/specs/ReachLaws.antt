@@ -42,7 +42,8 @@ module _ (l : Lent) (n : ℕ) (v : List ℕ) where
   unfolding reachOf spotOf inData
   reach-long h g =
       rw (lt-leb (lengthOf v) shortMost h, lt-ltb (blockOf v) n g)
-      (picked-reach (inData l (blockAt l (blockOf v)) && leb (offsetOf v + lengthOf v) (blockAt l (blockOf v) .len)) (blockAt l (blockOf v) .start + offsetOf v) (lengthOf v))
+      (picked-reach (inData l (blockAt l (blockOf v)) && leb (offsetOf v + lengthOf v) (blockAt l (blockOf v) .len)) (blockAt l (blockOf v) .start
+      + offsetOf v) (lengthOf v))
 
 -- ---- over a table of two number slices; k is the block's number, as the code has it
 
@@ -51,7 +52,8 @@ module _ (views bytes starts lens nulls : List ℕ) (n : ℕ) (v : List ℕ) whe
   here = lent views bytes starts lens nulls
 
   module _ (k : ℕ) (e : k ≡ blockOf v) (long : shortMost < lengthOf v) (h : k < n) (s : n ≤ length starts) (t : n ≤ length lens) where
-    at-block : pick (inData (buffers [] bytes [] []) (block (getD starts k 0) (getD lens k 0)) && leb (offsetOf v + lengthOf v) (getD lens k 0)) Inside Outside ≡ reachOf here n v
+    at-block : pick (inData (buffers [] bytes [] []) (block (getD starts k 0) (getD lens k 0)) && leb (offsetOf v + lengthOf v) (getD lens k 0))
+        Inside Outside ≡ reachOf here n v
     at-block =
         let size : getD lens k 0 ≡ blockAt here k .len = sym (ap (λ (b : Block). b .len) (table-at starts lens k (omega arith) (omega arith))) in
         rw (block-in-data views bytes starts lens nulls k (omega arith) (omega arith), size, e) (reach-long here n v long (omega arith))
@@ -59,10 +61,12 @@ module _ (views bytes starts lens nulls : List ℕ) (n : ℕ) (v : List ℕ) whe
     pub reach-no-data : inData (buffers [] bytes [] []) (block (getD starts k 0) (getD lens k 0)) ≡ false → Outside ≡ reachOf here n v
     reach-no-data i = rw (← at-block, i)
 
-    pub reach-over : inData (buffers [] bytes [] []) (block (getD starts k 0) (getD lens k 0)) ≡ true → getD lens k 0 < offsetOf v + lengthOf v → Outside ≡ reachOf here n v
+    pub reach-over : inData (buffers [] bytes [] []) (block (getD starts k 0) (getD lens k 0)) ≡ true → getD lens k 0 < offsetOf v + lengthOf v
+        → Outside ≡ reachOf here n v
     reach-over i o = rw (← at-block, i, lt-leb (offsetOf v + lengthOf v) (getD lens k 0) o)
 
-    pub reach-inside : inData (buffers [] bytes [] []) (block (getD starts k 0) (getD lens k 0)) ≡ true → offsetOf v + lengthOf v ≤ getD lens k 0 → Inside ≡ reachOf here n v
+    pub reach-inside : inData (buffers [] bytes [] []) (block (getD starts k 0) (getD lens k 0)) ≡ true → offsetOf v + lengthOf v ≤ getD lens k 0
+        → Inside ≡ reachOf here n v
     reach-inside i o = rw (← at-block, i, le-leb (offsetOf v + lengthOf v) (getD lens k 0) o)
 
 -- ---- what a reachable view of a long value tells: its block is in the table and in the data, and its range in the block
@@ -93,7 +97,13 @@ module _ (views bytes starts lens nulls : List ℕ) (n : ℕ) (v : List ℕ) (s 
   numbered : blockOf v < n → lies && ranged ≡ true → Reached bytes starts lens n v
   numbered h both =
       let inside = in-data-gives (buffers [] bytes [] []) (getD starts (blockOf v) 0) (getD lens (blockOf v) 0) (and-left lies ranged both) in
-      record { block = h; limit = inside .0; inside = inside .1; range = leb-true (offsetOf v + lengthOf v) (getD lens (blockOf v) 0) (and-right lies ranged both) }
+      record {
+        block = h;
+        limit = inside .0;
+        inside = inside .1;
+        range = leb-true (offsetOf v + lengthOf v) (getD lens (blockOf v) 0)
+            (and-right lies ranged both);
+      }
 
   pub reach-gives : reachable there n v ≡ true → Reached bytes starts lens n v
   unfolding reachable
@@ -164,7 +174,8 @@ module _ (views bytes starts lens nulls : List ℕ) (n : ℕ) (v : List ℕ) (s 
   -- the same of the view's numbers as the code has them
   pub part-shown : (k o m : ℕ) → k ≡ blockOf v → o ≡ offsetOf v → m ≡ lengthOf v → shortMost < m → reachable where-lent n v ≡ true
       → take (getD starts k 0 + o + m - (getD starts k 0 + o)) (drop (getD starts k 0 + o) bytes) ≡ shown (blocksOf where-lent n) v
-  part-shown k o m e f g long r = rw (e, f, g) (part-is bytes (getD starts (blockOf v) 0 + offsetOf v) (lengthOf v) (getD starts (blockOf v) 0 + offsetOf v) (lengthOf v) refl refl ∙ shown-long (rw g at long) r)
+  part-shown k o m e f g long r = rw (e, f, g) (part-is bytes (getD starts (blockOf v) 0 + offsetOf v) (lengthOf v) (getD starts (blockOf v) 0
+      + offsetOf v) (lengthOf v) refl refl ∙ shown-long (rw g at long) r)
 
   -- its length is the view's
   pub length-shown : length v ≡ viewSize → reachable where-lent n v ≡ true → length (shown (blocksOf where-lent n) v) ≡ lengthOf v

@@ -41,7 +41,8 @@ module _ (room n : ℕ) (b : Block) (v : List ℕ) (at len : ℕ) (el : len ≡ 
 
       pub spot-over : b .len < o + len → Outside ≡ spotOf room n b v at
       spot-over g =
-          let e : (leb (b .start + b .len) room && leb (o + len) (b .len)) ≡ false = sym (and-no (leb (b .start + b .len) room) (leb (o + len) (b .len)) (lt-leb (o + len) (b .len) g)) in
+          let e : (leb (b .start + b .len) room && leb (o + len) (b .len)) ≡ false = sym (and-no (leb (b .start + b .len) room)
+          (leb (o + len) (b .len)) (lt-leb (o + len) (b .len) g)) in
           rw (← spot-long, e)
 
       pub spot-past : room < b .start + b .len → Outside ≡ spotOf room n b v at
@@ -77,7 +78,8 @@ spot-named room n table v at b e = short (isShort (lengthOf v)) refl
 -- how a spot came about
 pub data Stood (room n : ℕ) (b : Block) (v : List ℕ) (at : ℕ) : Spot → Type 0 where
   in-views : lengthOf v ≤ shortMost → Stood room n b v at (View (viewSize * at + 4) (lengthOf v))
-  in-data : shortMost < lengthOf v → blockOf v < n → b .start + b .len ≤ room → offsetOf v + lengthOf v ≤ b .len → Stood room n b v at (Data (b .start + offsetOf v) (lengthOf v))
+  in-data : shortMost < lengthOf v → blockOf v < n → b .start + b .len ≤ room → offsetOf v + lengthOf v ≤ b .len
+      → Stood room n b v at (Data (b .start + offsetOf v) (lengthOf v))
   no-block : shortMost < lengthOf v → n ≤ blockOf v → Stood room n b v at NoBlock
   outside : shortMost < lengthOf v → blockOf v < n → Stood room n b v at Outside
 
@@ -95,7 +97,8 @@ stood room n b v at = short (isShort (lengthOf v)) refl
     named true f l = in-block (leb (b .start + b .len) room) (leb (offsetOf v + lengthOf v) (b .len)) refl refl l (ltb-true (blockOf v) n f)
     named false f l = no-block l (ltb-false (blockOf v) n f)
 
-    short : (t : Bool) → isShort (lengthOf v) ≡ t → Stood room n b v at (pick t (View (viewSize * at + 4) (lengthOf v)) (pick (ltb (blockOf v) n) (ranged room v b) NoBlock))
+    short : (t : Bool) → isShort (lengthOf v) ≡ t → Stood room n b v at (pick t (View (viewSize * at + 4) (lengthOf v)) (pick (ltb (blockOf v) n)
+        (ranged room v b) NoBlock))
     short true f = in-views (leb-true (lengthOf v) shortMost f)
     short false f = named (ltb (blockOf v) n) refl (leb-false (lengthOf v) shortMost f)
 
@@ -109,7 +112,8 @@ unfolding reachOf spotOf
 spot-reach l n v at = row-none (isShort (lengthOf v)) at (lengthOf v) _
 
 -- s is what the code found with so much room and the record b
-module _ (views bytes : List ℕ) (room n : ℕ) (b : Block) (at : ℕ) (s : Spot) (er : room ≡ dataRoom (buffers [] bytes [] [])) (es : s ≡ spotOf room n b (viewAt views at) at) where
+module _ (views bytes : List ℕ) (room n : ℕ) (b : Block) (at : ℕ) (s : Spot) (er : room ≡ dataRoom (buffers [] bytes [] [])) (es : s
+    ≡ spotOf room n b (viewAt views at) at) where
   abbrev view : List ℕ
   view = viewAt views at
 

@@ -54,7 +54,15 @@ module _ (vs : List ℕ) (r n : ℕ) where
 
   rest-is : (m : ℕ) → n + m ≡ shortMost → zeros rest ≡ eqb (wordAt vs (viewSize * r + 4 + n) m) 0
   rest-is m e =
-      rw (body-at vs r, ← e, drop-take n m (drop (viewSize * r + 4) vs), drop-drop n (viewSize * r + 4) vs, zeros-dec (take m (drop (viewSize * r + 4 + n) vs)), word-dec vs (viewSize * r + 4 + n) m)
+      rw (
+        body-at vs r,
+        ← e,
+        drop-take n m (drop (viewSize * r + 4) vs),
+        drop-drop n (viewSize * r + 4) vs,
+        zeros-dec
+            (take m (drop (viewSize * r + 4 + n) vs)),
+        word-dec vs (viewSize * r + 4 + n) m,
+      )
 
   pub rest-none : n ≡ shortMost → true ≡ zeros rest
   unfolding wordAt
@@ -80,7 +88,8 @@ module _ (vs : List ℕ) (r n : ℕ) where
             let place : viewSize * r + 4 + n + m ≡ viewSize * r + 4 + 4 = omega arith in
             let cut : x ≡ wordAt vs (viewSize * r + 4) (n + m) = ex ∙ ap (wordAt vs (viewSize * r + 4)) (sym e) in
             let low : x / 2 ^ (8 * n) ≡ wordAt vs (viewSize * r + 4 + n) m = rw cut (word-high vs (viewSize * r + 4) n m hb) in
-            let whole : wordAt vs (viewSize * r + 4 + n) (m + 8) ≡ wordAt vs (viewSize * r + 4 + n) m + 2 ^ (8 * m) * y = rw (ey, ← place) (word-split vs (viewSize * r + 4 + n) m 8) in
+            let whole : wordAt vs (viewSize * r + 4 + n) (m + 8) ≡ wordAt vs (viewSize * r + 4 + n) m + 2 ^ (8 * m) * y = rw (ey, ← place)
+            (word-split vs (viewSize * r + 4 + n) m 8) in
             rw (rest-is (m + 8) (omega arith), whole, low, z, mul-zero (2 ^ (8 * m)), add-zero (wordAt vs (viewSize * r + 4 + n) m))
 
     pub rest-not : n < 4 → (y ≡ 0 → ⊥) → false ≡ zeros rest
@@ -89,8 +98,10 @@ module _ (vs : List ℕ) (r n : ℕ) where
         by : (m : ℕ) → n + m ≡ 4 → false ≡ zeros rest
         by m e =
             let place : viewSize * r + 4 + n + m ≡ viewSize * r + 4 + 4 = omega arith in
-            let whole : wordAt vs (viewSize * r + 4 + n) (m + 8) ≡ wordAt vs (viewSize * r + 4 + n) m + 2 ^ (8 * m) * y = rw (ey, ← place) (word-split vs (viewSize * r + 4 + n) m 8) in
-            rw (rest-is (m + 8) (omega arith), whole) (sym (ne-eqb (wordAt vs (viewSize * r + 4 + n) m + 2 ^ (8 * m) * y) 0 (more (2 ^ (8 * m)) y (wordAt vs (viewSize * r + 4 + n) m) (pow-pos (8 * m)) z)))
+            let whole : wordAt vs (viewSize * r + 4 + n) (m + 8) ≡ wordAt vs (viewSize * r + 4 + n) m + 2 ^ (8 * m) * y = rw (ey, ← place)
+            (word-split vs (viewSize * r + 4 + n) m 8) in
+            rw (rest-is (m + 8) (omega arith), whole) (sym (ne-eqb (wordAt vs (viewSize * r + 4 + n) m + 2 ^ (8 * m) * y) 0
+            (more (2 ^ (8 * m)) y (wordAt vs (viewSize * r + 4 + n) m) (pow-pos (8 * m)) z)))
 
 -- ---- the first bytes of a long value
 

@@ -79,13 +79,15 @@ ready-room most n f p i = by (leb (length (f .now) + n) most) refl
           last = λ m. i .beyond (length (filled f)) (simp length-append (omega arith));
         }
 
-module _ (most : ℕ) (x v : List ℕ) (f : Fill) (p : ℕ → ℕ) (h : shortMost < length x) (s : Fits x (length (f .done)) (length (f .now))) (e : v ≡ longView x (length (f .done)) (length (f .now)))
+module _ (most : ℕ) (x v : List ℕ) (f : Fill) (p : ℕ → ℕ) (h : shortMost < length x) (s : Fits x (length (f .done)) (length (f .now))) (e : v
+    ≡ longView x (length (f .done)) (length (f .now)))
     (r : Ready most (length x) f p) where
   bound-lay : Bound most (lay x f) (λ k. p k + pick (points k v) 1 0)
   bound-lay =
       record {
         over = λ k m. rw (e, points-long k x (length (f .done)) (length (f .now)) h s) (by k m (eqb (length (f .done)) k) refl);
-        beyond = λ k m. rw (e, points-long k x (length (f .done)) (length (f .now)) h s, ne-eqb (length (f .done)) k (omega arith)) (omega (arith, r .bound .beyond k m));
+        beyond = λ k m. rw (e, points-long k x (length (f .done)) (length (f .now)) h s, ne-eqb (length (f .done)) k (omega arith))
+            (omega (arith, r .bound .beyond k m));
       }
     where
       by : (k : ℕ) → most < length (getD (filled (lay x f)) k []) → (t : Bool) → eqb (length (f .done)) k ≡ t → p k + pick t 1 0 ≡ 1
@@ -103,9 +105,11 @@ module _ (most : ℕ) (view value : ℕ → List ℕ) (bs : List (List ℕ)) whe
   bound-fills (suc n) h s =
       by (isShort (lengthOf (view n))) refl s (bound-fills n (λ r l. h r (omega arith)) (small-fills most view value bs n s))
     where
-      by : (t : Bool) → isShort (lengthOf (view n)) ≡ t → Small (pick t (fills most view value n) (lay (value n) (roomOf most (lengthOf (view n)) (fills most view value n))))
+      by : (t : Bool) → isShort (lengthOf (view n)) ≡ t
+          → Small (pick t (fills most view value n) (lay (value n) (roomOf most (lengthOf (view n)) (fills most view value n))))
           → Bound most (fills most view value n) (λ k. pointed k (viewBy most view value) n)
-          → Bound most (pick t (fills most view value n) (lay (value n) (roomOf most (lengthOf (view n)) (fills most view value n)))) (λ k. pointed k (viewBy most view value) n + pick (points k (viewBy most view value n)) 1 0)
+          → Bound most (pick t (fills most view value n) (lay (value n) (roomOf most (lengthOf (view n)) (fills most view value n))))
+          (λ k. pointed k (viewBy most view value) n + pick (points k (viewBy most view value n)) 1 0)
       by true e s i =
           record {
             over = λ k m. rw (view-short most view value n e, points-short k (view n) e) (omega (arith, i .over k m));
@@ -113,12 +117,15 @@ module _ (most : ℕ) (view value : ℕ → List ℕ) (bs : List (List ℕ)) whe
           }
       by false e s i =
           let c = h n (omega arith) in
-          bound-lay most (value n) (viewBy most view value n) (roomOf most (lengthOf (view n)) (fills most view value n)) (λ k. pointed k (viewBy most view value) n)
+          bound-lay most (value n) (viewBy most view value n) (roomOf most (lengthOf (view n)) (fills most view value n))
+          (λ k. pointed k (viewBy most view value) n)
           (omega (arith, leb-false (lengthOf (view n)) shortMost e, c .len)) (fits-lay (value n) (roomOf most (lengthOf (view n)) (fills most view value n)) s)
           (view-placed most view value bs n (λ r l. sym (h r (omega arith) .len)) e)
-          (subst (λ (m : ℕ). Ready most m (roomOf most (lengthOf (view n)) (fills most view value n)) (λ k. pointed k (viewBy most view value) n)) (c .len) (ready-room most (lengthOf (view n)) (fills most view value n) (λ k. pointed k (viewBy most view value) n) i))
+          (subst (λ (m : ℕ). Ready most m (roomOf most (lengthOf (view n)) (fills most view value n)) (λ k. pointed k (viewBy most view value) n))
+          (c .len) (ready-room most (lengthOf (view n)) (fills most view value n) (λ k. pointed k (viewBy most view value) n) i))
 
-  bound-out : (n : ℕ) → ((r : ℕ) → r < n → Row bs (view r) (value r)) → length (blocksOut most view value n) < 2 ^ 32 → length (flat (blocksOut most view value n)) < 2 ^ 32
+  bound-out : (n : ℕ) → ((r : ℕ) → r < n → Row bs (view r) (value r)) → length (blocksOut most view value n) < 2 ^ 32
+      → length (flat (blocksOut most view value n)) < 2 ^ 32
       → (k : ℕ) → most < length (getD (blocksOut most view value n) k []) → pointed k (viewBy most view value) n ≡ 1
   unfolding blocksOut
   bound-out n h p q k m = by (isNone (longOf (λ r. lengthOf (view r)) (λ r. lengthOf (view r)) n)) p q m
@@ -150,8 +157,10 @@ module _ (most : ℕ) (l : Lent) (c : Column) (out : Lent) (r : Room most l c ou
       record {
         single = λ k h g.
             pointed-same (compacted most l c out) (compactColumn most l c) (newView most l c) k (c .rows) row-back
-            ∙ bound-out most (rowView l c) (valueAt l c) (blocksOf l (c .blocks)) (c .rows) (old-row most l c out r) (bytes-small most l c out r .0) (bytes-small most l c out r .1) k (rw (block-long k h) g);
+            ∙ bound-out most (rowView l c) (valueAt l c) (blocksOf l (c .blocks)) (c .rows) (old-row most l c out r) (bytes-small most l c out r .0)
+            (bytes-small most l c out r .1) k (rw (block-long k h) g);
       }
 
-pub compacted-bounded : (most : ℕ) (l : Lent) (c : Column) (out : Lent) → whyCompact most l c out ≡ Accepted → Bounded most (compacted most l c out) (compactColumn most l c)
+pub compacted-bounded : (most : ℕ) (l : Lent) (c : Column) (out : Lent) → whyCompact most l c out ≡ Accepted → Bounded most (compacted most l c out)
+    (compactColumn most l c)
 compacted-bounded most l c out e = compact-bounded most l c out (room most l c out e)

@@ -18,7 +18,8 @@ pub no-block : (most : ℕ) → cutLens most [] ≡ []
 unfolding cutLens
 no-block most = refl
 
-pub views-kept : (most : ℕ) (view value : ℕ → List ℕ) (n : ℕ) → isNone (longOf (λ r. lengthOf (view r)) (λ r. lengthOf (view r)) n) ≡ true → (r : ℕ) → r < n → viewBy most view value r ≡ view r
+pub views-kept : (most : ℕ) (view value : ℕ → List ℕ) (n : ℕ) → isNone (longOf (λ r. lengthOf (view r)) (λ r. lengthOf (view r)) n) ≡ true → (r : ℕ)
+    → r < n → viewBy most view value r ≡ view r
 views-kept most view value n e r h = view-short most view value r (none-short (λ q. lengthOf (view q)) n e r h)
 
 -- the total within the maximum

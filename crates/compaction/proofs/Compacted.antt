@@ -100,21 +100,24 @@ module _ (most : ℕ) (l : Lent) (c : Column) (out : Lent) (r : Room most l c ou
   unfolding viewsOf compacted
   views-back =
       let m = rooms (c .mapped) out in
-      rows-same (λ i. viewAt (putRows (out .views) (newView most l c) (c .rows)) (0 + i)) (viewAt (putRows (out .views) (newView most l c) (c .rows))) (c .rows) (λ i h. rw (zero-add i))
+      rows-same (λ i. viewAt (putRows (out .views) (newView most l c) (c .rows)) (0 + i)) (viewAt (putRows (out .views) (newView most l c) (c .rows)))
+      (c .rows) (λ i h. rw (zero-add i))
       ∙ views-read (out .views) (newView most l c) (c .rows) new-sized (omega (arith, r .rows))
 
   pub blocks-back : blocksOf (compacted most l c out) (length (newLens most l c)) ≡ newBlocks most l c
   unfolding compacted
   blocks-back =
       rw (← count-new, ← lens-new, ← bytes-new)
-      (blocks-read (out .bytes) (out .table) (newBlocks most l c) (putRows (out .views) (newView most l c) (c .rows)) (pick (c .mapped) (putBits (out .nulls) 0 (validAt l c) (c .rows)) (out .nulls)))
+      (blocks-read (out .bytes) (out .table) (newBlocks most l c) (putRows (out .views) (newView most l c) (c .rows))
+      (pick (c .mapped) (putBits (out .nulls) 0 (validAt l c) (c .rows)) (out .nulls)))
 
   bits-back : bitsOf (compacted most l c out) (compactColumn most l c) ≡ bitsOf l c
   unfolding bitsOf compacted validAt bits.validAt
   bits-back = by (c .mapped) refl (rooms (c .mapped) out .nulls)
     where
       by : (t : Bool) → c .mapped ≡ t → (c .mapped ≡ true → rowRoom (c .mapped) out ≤ 8 * length (out .nulls))
-          → rowsOf (λ i. bits.validAt (pick t (putBits (out .nulls) 0 (validAt l c) (c .rows)) (out .nulls)) t (0 + i)) (c .rows) ≡ rowsOf (validAt l c) (c .rows)
+          → rowsOf (λ i. bits.validAt (pick t (putBits (out .nulls) 0 (validAt l c) (c .rows)) (out .nulls)) t (0 + i)) (c .rows)
+          ≡ rowsOf (validAt l c) (c .rows)
       by true e m = bits-anew (out .nulls) (validAt l c) (c .rows) (omega (arith, r .rows, m e))
       by false e m = rows-same (λ i. bits.validAt (out .nulls) false (0 + i)) (validAt l c) (c .rows) (λ i h. rw e)
 
@@ -155,7 +158,14 @@ module _ (most : ℕ) (l : Lent) (c : Column) (out : Lent) (r : Room most l c ou
 
   inside-back : AllIn (compacted most l c out) (length (newLens most l c))
   inside-back k h =
-      rw (record-at k h) (omega (arith, record-ends 0 (newLens most l c) k h, lens-total most (longLens l c (c .rows)), r .bytes, data-room-same (compacted most l c out) out length-bytes))
+      rw (record-at k h) (omega (
+        arith,
+        record-ends 0 (newLens most l c) k h,
+        lens-total most (longLens l c (c .rows)),
+        r .bytes,
+        data-room-same
+            (compacted most l c out) out length-bytes,
+      ))
 
   pub compact-shows : Shows (compacted most l c out) (compactColumn most l c) (rowsOf (valueAt l c) (c .rows)) (bitsOf l c)
   compact-shows =
@@ -173,7 +183,8 @@ unfolding shownAt
 compacted-alike most l c out e = compact-shows most l c out (room most l c out e)
 
 -- a column that shows values and bits shows them compacted
-pub compacted-shows : (most : ℕ) (l : Lent) (c : Column) (out : Lent) {xs : List (List ℕ)} {bs : List Bool} → Shows l c xs bs → whyCompact most l c out ≡ Accepted
+pub compacted-shows : (most : ℕ) (l : Lent) (c : Column) (out : Lent) {xs : List (List ℕ)} {bs : List Bool} → Shows l c xs bs
+    → whyCompact most l c out ≡ Accepted
     → Shows (compacted most l c out) (compactColumn most l c) xs bs
 compacted-shows most l c out {xs} {bs} s e =
     let n : c .rows ≡ length xs = shows-rows s in

@@ -43,7 +43,8 @@ roomOf most n f = pick (leb (length (f .now) + n) most) f (close f)
 
 unfoldable pub fills : ℕ → (ℕ → List ℕ) → (ℕ → List ℕ) → ℕ → Fill
 fills most view value zero = fill [] []
-fills most view value (suc k) = pick (isShort (lengthOf (view k))) (fills most view value k) (lay (value k) (roomOf most (lengthOf (view k)) (fills most view value k)))
+fills most view value (suc k) = pick (isShort (lengthOf (view k))) (fills most view value k)
+    (lay (value k) (roomOf most (lengthOf (view k)) (fills most view value k)))
 
 -- their lengths are the walk's
 abbrev pub cutOf : Fill → Cut
@@ -70,7 +71,8 @@ module _ (most : ℕ) (view value : ℕ → List ℕ) where
   cut-fills (suc n) h = by (isShort (len n)) (cut-fills n (λ r l. h r (omega arith)))
     where
       by : (t : Bool) → cutOf (fills most view value n) ≡ cutAll most (longOf len len n)
-          → cutOf (pick t (fills most view value n) (lay (value n) (roomOf most (len n) (fills most view value n)))) ≡ cutAll most (longOf len len n ++ pick t [] (len n ∷ []))
+          → cutOf (pick t (fills most view value n) (lay (value n) (roomOf most (len n) (fills most view value n))))
+          ≡ cutAll most (longOf len len n ++ pick t [] (len n ∷ []))
       by true e = rw (append-nil (longOf len len n)) e
       by false e =
           rw (cut-snoc most (longOf len len n) (len n), ← e, ← room-cut most (len n) (fills most view value n))
@@ -152,7 +154,8 @@ module _ (most : ℕ) (view value : ℕ → List ℕ) (bs : List (List ℕ)) whe
 
   -- the view of a long row, by the blocks as bytes
   pub view-placed : (n : ℕ) → ((r : ℕ) → r < n → length (value r) ≡ lengthOf (view r)) → isShort (lengthOf (view n)) ≡ false
-      → viewBy most view value n ≡ longView (value n) (length (roomOf most (lengthOf (view n)) (upto n) .done)) (length (roomOf most (lengthOf (view n)) (upto n) .now))
+      → viewBy most view value n ≡ longView (value n) (length (roomOf most (lengthOf (view n)) (upto n) .done))
+      (length (roomOf most (lengthOf (view n)) (upto n) .now))
   view-placed n h e =
       view-long most view value n e
       ∙ rw (← cut-fills most view value n h, ← room-cut most (lengthOf (view n)) (upto n), length-map (roomOf most (lengthOf (view n)) (upto n) .done) length)
@@ -165,21 +168,24 @@ module _ (most : ℕ) (view value : ℕ → List ℕ) (bs : List (List ℕ)) whe
       by true s = s
       by false s = small-room most (lengthOf (view n)) (upto n) (small-lay (value n) (roomOf most (lengthOf (view n)) (upto n)) s)
 
-  pub rows-fills : (n : ℕ) → ((r : ℕ) → r < n → Row bs (view r) (value r)) → Small (upto n) → Rows (filled (upto n)) (rowsOf (viewBy most view value) n) (rowsOf value n)
+  pub rows-fills : (n : ℕ) → ((r : ℕ) → r < n → Row bs (view r) (value r)) → Small (upto n) → Rows (filled (upto n)) (rowsOf (viewBy most view value)
+      n) (rowsOf value n)
   unfolding fills rowsOf
   rows-fills zero h s = rnil
   rows-fills (suc n) h s = by (isShort (lengthOf (view n))) refl s (rows-fills n (λ r l. h r (omega arith)) (small-fills n s))
     where
       by : (t : Bool) → isShort (lengthOf (view n)) ≡ t → Small (pick t (upto n) (lay (value n) (roomOf most (lengthOf (view n)) (upto n))))
           → Rows (filled (upto n)) (rowsOf (viewBy most view value) n) (rowsOf value n)
-          → Rows (filled (pick t (upto n) (lay (value n) (roomOf most (lengthOf (view n)) (upto n))))) (rowsOf (viewBy most view value) n ++ viewBy most view value n ∷ []) (rowsOf value n ++ value n ∷ [])
+          → Rows (filled (pick t (upto n) (lay (value n) (roomOf most (lengthOf (view n)) (upto n))))) (rowsOf (viewBy most view value) n ++ viewBy
+          most view value n ∷ []) (rowsOf value n ++ value n ∷ [])
       by true e s rs =
           let c = h n (omega arith) in
           rw (view-short most view value n e) (rows-snoc rs (row-any (omega (arith, leb-true (lengthOf (view n)) shortMost e, c .len)) c))
       by false e s rs =
           let c = h n (omega arith) in
           rw (view-placed n (λ r l. sym (h r (omega arith) .len)) e)
-          (rows-lay (roomOf most (lengthOf (view n)) (upto n)) (value n) (rows-room most (lengthOf (view n)) (upto n) rs) (omega (arith, leb-false (lengthOf (view n)) shortMost e, c .len)) s)
+          (rows-lay (roomOf most (lengthOf (view n)) (upto n)) (value n) (rows-room most (lengthOf (view n)) (upto n) rs)
+          (omega (arith, leb-false (lengthOf (view n)) shortMost e, c .len)) s)
 
 -- ---- where no row is long
 
@@ -203,7 +209,8 @@ none-short len (suc n) e r h =
     by true e = refl
     by false e = e
 
-pub none-flat : (view value : ℕ → List ℕ) (n : ℕ) → isNone (longOf (λ r. lengthOf (view r)) (λ r. lengthOf (view r)) n) ≡ true → flat (longOf (λ r. lengthOf (view r)) value n) ≡ []
+pub none-flat : (view value : ℕ → List ℕ) (n : ℕ) → isNone (longOf (λ r. lengthOf (view r)) (λ r. lengthOf (view r)) n) ≡ true
+    → flat (longOf (λ r. lengthOf (view r)) value n) ≡ []
 unfolding longOf flat
 none-flat view value zero e = refl
 none-flat view value (suc n) e =
@@ -241,12 +248,14 @@ module _ (most : ℕ) (view value : ℕ → List ℕ) (n : ℕ) where
       by false e = flat-fills most view value n
 
   -- rows over the blocks
-  pub rows-out : (bs : List (List ℕ)) → ((r : ℕ) → r < n → Row bs (view r) (value r)) → length (blocksOut most view value n) < 2 ^ 32 → length (flat (blocksOut most view value n)) < 2 ^ 32
+  pub rows-out : (bs : List (List ℕ)) → ((r : ℕ) → r < n → Row bs (view r) (value r)) → length (blocksOut most view value n) < 2 ^ 32
+      → length (flat (blocksOut most view value n)) < 2 ^ 32
       → Rows (blocksOut most view value n) (rowsOf (viewBy most view value) n) (rowsOf value n)
   unfolding blocksOut
   rows-out bs h p q = by (isNone lengths) refl p q
     where
-      by : (t : Bool) → isNone lengths ≡ t → length (pick t [] (filled (fills most view value n))) < 2 ^ 32 → length (flat (pick t [] (filled (fills most view value n)))) < 2 ^ 32
+      by : (t : Bool) → isNone lengths ≡ t → length (pick t [] (filled (fills most view value n))) < 2 ^ 32
+          → length (flat (pick t [] (filled (fills most view value n)))) < 2 ^ 32
           → Rows (pick t [] (filled (fills most view value n))) (rowsOf (viewBy most view value) n) (rowsOf value n)
       by true e p q =
           rows-by [] (viewBy most view value) value n

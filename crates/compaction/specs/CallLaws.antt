@@ -97,7 +97,8 @@ module _ (most : ℕ) (views bytes starts lens nulls : List ℕ) (c : Column) (o
         bytes-is : m .stand .base + m .stand .fill ≡ total (longLens src c (c .rows))
         bytes-is = rw (g .stand good-is) (stand-total most (longLens src c (c .rows)))
 
-        pub compact-rooms : (w : Why) (b : ℕ) → b ≡ blocksBy (m .stand) → w ≡ whyRooms (c .mapped) (c .rows) b (m .stand .base + m .stand .fill) out → w ≡ whyCompact most src c out
+        pub compact-rooms : (w : Why) (b : ℕ) → b ≡ blocksBy (m .stand) → w ≡ whyRooms (c .mapped) (c .rows) b (m .stand .base + m .stand .fill) out
+            → w ≡ whyCompact most src c out
         compact-rooms w b e h =
             past-setting w
             (refuse-no Fit (not (fits src c)) _ w fit
@@ -171,7 +172,17 @@ module _ (most : ℕ) (views bytes starts lens nulls : List ℕ) (c : Column) (v
     pub room-table : TableIn last ss ns
     room-table =
         let m = rooms (c .mapped) into in
-        record { starts = λ h. omega (arith, table-in h, m .table, length-table ss ns); lens = λ h. omega (arith, table-in h, m .table, length-table ss ns); few = few }
+        record {
+          starts = λ h. omega (arith, table-in h, m .table, length-table ss ns);
+          lens = λ h. omega (
+            arith,
+            table-in h,
+            m .table,
+            length-table
+                ss ns,
+          );
+          few = few;
+        }
 
     pub map-in : (c .mapped ≡ true → (c .rows ≤ 8 * length ms) × (c .first + c .rows ≤ 8 * length nulls)) × (c .first + c .rows < 2 ^ 63)
     map-in =
@@ -197,7 +208,8 @@ module _ (most : ℕ) (views bytes starts lens nulls : List ℕ) (c : Column) (v
   unfolding compactOf
   wrote-not h =
       record {
-        answer = outcome-is (j .why) verdict c (ifAccepted verdict (compactColumn most orig c) c) (g .verdict) (accepted-no verdict (j .why) (compactColumn most orig c) c c (g .verdict) h refl);
+        answer = outcome-is (j .why) verdict c (ifAccepted verdict (compactColumn most orig c) c) (g .verdict) (accepted-no verdict (j .why)
+            (compactColumn most orig c) c c (g .verdict) h refl);
         views = accepted-no verdict (j .why) (compacted most orig c dest .views) vs vs (g .verdict) h refl;
         bytes = accepted-no verdict (j .why) (compacted most orig c dest .bytes) bs bs (g .verdict) h refl;
         starts = accepted-no verdict (j .why) _ ss ss (g .verdict) h refl;
@@ -211,7 +223,8 @@ module _ (most : ℕ) (views bytes starts lens nulls : List ℕ) (c : Column) (v
   pub accepted : isAccepted (j .why) ≡ true → isAccepted verdict ≡ true
   accepted h = rw (g .verdict) at h
 
-  module _ (h : isAccepted (j .why) ≡ true) (vs′ bs′ ss′ ns′ ms′ : List ℕ) (f : Filled most (bare views bytes starts lens) c vs bs vs′ bs′) (k : Listed most (rowView (lent views bytes starts lens nulls) c) (c .rows) ss ns ss′ ns′)
+  module _ (h : isAccepted (j .why) ≡ true) (vs′ bs′ ss′ ns′ ms′ : List ℕ) (f : Filled most (bare views bytes starts lens) c vs bs vs′ bs′)
+      (k : Listed most (rowView (lent views bytes starts lens nulls) c) (c .rows) ss ns ss′ ns′)
       (m : ms′ ≡ mapBy ms nulls (c .mapped) (c .first) (c .rows)) where
     views-are : vs′ ≡ compacted most orig c dest .views
     unfolding compacted blocksOf
@@ -228,11 +241,22 @@ module _ (most : ℕ) (views bytes starts lens nulls : List ℕ) (c : Column) (v
     column-is : _≡_ {A = Column} (record { first = 0; rows = c .rows; blocks = j .blocks; kind = c .kind; mapped = c .mapped }) (compactColumn most orig c)
     column-is = rw (g .count (accepted h) .blocks)
 
-    pub wrote : Wrote most orig c vs bs ss ns ms (record { why = j .why; column = record { first = 0; rows = c .rows; blocks = j .blocks; kind = c .kind; mapped = c .mapped } }) vs′ bs′ ss′ ns′ ms′
+    pub wrote : Wrote most orig c vs bs ss ns ms (record {
+      why = j .why;
+      column = record {
+        first = 0;
+        rows = c .rows;
+        blocks = j .blocks;
+        kind =
+            c .kind;
+        mapped = c .mapped;
+      };
+    }) vs′ bs′ ss′ ns′ ms′
     unfolding compactOf
     wrote =
         record {
-          answer = outcome-is (j .why) verdict _ (ifAccepted verdict (compactColumn most orig c) c) (g .verdict) (accepted-yes verdict (j .why) (compactColumn most orig c) c _ (g .verdict) h column-is);
+          answer = outcome-is (j .why) verdict _ (ifAccepted verdict (compactColumn most orig c) c) (g .verdict) (accepted-yes verdict (j .why)
+              (compactColumn most orig c) c _ (g .verdict) h column-is);
           views = accepted-yes verdict (j .why) (compacted most orig c dest .views) vs vs′ (g .verdict) h views-are;
           bytes = accepted-yes verdict (j .why) (compacted most orig c dest .bytes) bs bs′ (g .verdict) h bytes-are;
           starts = accepted-yes verdict (j .why) _ ss ss′ (g .verdict) h (k .starts);
@@ -242,7 +266,8 @@ module _ (most : ℕ) (views bytes starts lens nulls : List ℕ) (c : Column) (v
 
 -- ---- the map
 
-pub map-yes : (ms nulls : List ℕ) (mapped : Bool) (first rows : ℕ) → mapped ≡ true → putBits ms 0 (λ k. bits.validAt nulls mapped (first + k)) rows ≡ mapBy ms nulls mapped first rows
+pub map-yes : (ms nulls : List ℕ) (mapped : Bool) (first rows : ℕ) → mapped ≡ true → putBits ms 0 (λ k. bits.validAt nulls mapped (first + k)) rows
+    ≡ mapBy ms nulls mapped first rows
 unfolding mapBy
 map-yes ms nulls mapped first rows e = rw e
 

@@ -46,7 +46,8 @@ longValues l c n = longOf (lenAt l c) (valueAt l c) n
 
 -- row r's view: a short one as it is, a long one by its place among the long ones before it
 unfoldable pub viewBy : ℕ → (ℕ → List ℕ) → (ℕ → List ℕ) → ℕ → List ℕ
-viewBy most view value r = pick (isShort (lengthOf (view r))) (view r) (placedBy (place most (longOf (λ q. lengthOf (view q)) (λ q. lengthOf (view q)) r) (lengthOf (view r))) (value r))
+viewBy most view value r = pick (isShort (lengthOf (view r))) (view r) (placedBy (place most (longOf (λ q. lengthOf (view q)) (λ q. lengthOf (view q))
+    r) (lengthOf (view r))) (value r))
 
 abbrev pub newView : ℕ → Lent → Column → ℕ → List ℕ
 newView most l c = viewBy most (rowView l c) (valueAt l c)

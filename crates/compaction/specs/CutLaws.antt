@@ -60,10 +60,16 @@ module _ (most : ℕ) (len : ℕ → ℕ) (k : ℕ) where
   stand-row = by (leb (len k) shortMost) refl
     where
       by : (t : Bool) → leb (len k) shortMost ≡ t
-          → standOf (cutAll most (longOf len len (suc k))) ≡ pick t (standOf (cutAll most (longOf len len k))) (addStand (len k) (roomStand most (len k) (standOf (cutAll most (longOf len len k)))))
+          → standOf (cutAll most (longOf len len (suc k))) ≡ pick t (standOf (cutAll most (longOf len len k)))
+          (addStand (len k) (roomStand most (len k) (standOf (cutAll most (longOf len len k)))))
       by true e = rw (cut-short (leb-true (len k) shortMost e))
       by false e =
-          rw (cut-long (leb-false (len k) shortMost e), stand-add (len k) (roomFor most (len k) (cutAll most (longOf len len k))), stand-room most (len k) (cutAll most (longOf len len k)))
+          rw (
+            cut-long (leb-false (len k) shortMost e),
+            stand-add (len k) (roomFor most (len k) (cutAll most (longOf len len k))),
+            stand-room most
+                (len k) (cutAll most (longOf len len k)),
+          )
 
 pub stand-next : (most : ℕ) (len : ℕ → ℕ) (k n : ℕ) (s t : Stand) → n ≡ len k → s ≡ standOf (cutAll most (longOf len len k)) → t ≡ stepOf most n s
     → t ≡ standOf (cutAll most (longOf len len (k + 1)))
@@ -141,8 +147,10 @@ pub roomed : (most n : ℕ) (s t : Stand) → t ≡ roomStand most n s → Roome
 roomed most n s t e = rw e (room-same most n s)
 
 -- ---- a row's writes, from those of the parts
-pub long-put : (most r : ℕ) (x : List ℕ) (s : Stand) (vs bs : List ℕ) (t u : Stand) (vs′ bs′ : List ℕ) → t ≡ roomStand most (length x) s → u ≡ addStand (length x) t
-    → vs′ ≡ paste vs (viewSize * r) (longView x (t .closed) (t .fill)) viewSize → bs′ ≡ paste bs (t .base + t .fill) x (length x) → LongPut most r x s vs bs u vs′ bs′
+pub long-put : (most r : ℕ) (x : List ℕ) (s : Stand) (vs bs : List ℕ) (t u : Stand) (vs′ bs′ : List ℕ) → t ≡ roomStand most (length x) s
+    → u ≡ addStand (length x) t
+    → vs′ ≡ paste vs (viewSize * r) (longView x (t .closed) (t .fill)) viewSize → bs′ ≡ paste bs (t .base + t .fill) x (length x)
+    → LongPut most r x s vs bs u vs′ bs′
 long-put most r x s vs bs t u vs′ bs′ e f v b =
     let g = roomed most (length x) s t e in
     record { next = f ∙ ap (addStand (length x)) e; views = rw (← e) v; bytes = rw (g .place) at b }
@@ -168,7 +176,8 @@ module _ (most n : ℕ) (s : Stand) (ss ns : List ℕ) where
         lens = le-yes n shortMost ns (closedAt most n s (s .fill) ns) ns h refl;
       }
 
-  pub table-long : (t u : Stand) (ss′ ns′ : List ℕ) → shortMost < n → t ≡ roomStand most n s → u ≡ addStand n t → ss′ ≡ closedAt most n s (s .base) ss → ns′ ≡ closedAt most n s (s .fill) ns
+  pub table-long : (t u : Stand) (ss′ ns′ : List ℕ) → shortMost < n → t ≡ roomStand most n s → u ≡ addStand n t → ss′ ≡ closedAt most n s (s .base) ss
+      → ns′ ≡ closedAt most n s (s .fill) ns
       → TablePut most n s ss ns u ss′ ns′
   unfolding recordedAt stepOf
   table-long t u ss′ ns′ h e f p q =

@@ -57,7 +57,8 @@ module _ {A : Type 0} (len : ℕ → ℕ) (f : ℕ → A) (k : ℕ) where
   long-long e = rw e
 
 -- their bytes are as many as their lengths say
-pub flat-total : (len : ℕ → ℕ) (value : ℕ → List ℕ) (n : ℕ) → ((r : ℕ) → r < n → length (value r) ≡ len r) → length (flat (longOf len value n)) ≡ total (longOf len len n)
+pub flat-total : (len : ℕ → ℕ) (value : ℕ → List ℕ) (n : ℕ) → ((r : ℕ) → r < n → length (value r) ≡ len r) → length (flat (longOf len value n))
+    ≡ total (longOf len len n)
 unfolding longOf flat total
 flat-total len value zero h = refl
 flat-total len value (suc n) h = by (flat-total len value n (λ r l. h r (omega arith))) (isShort (len n))
@@ -66,14 +67,25 @@ flat-total len value (suc n) h = by (flat-total len value n (λ r l. h r (omega 
         → (t : Bool) → length (flat (longOf len value n ++ pick t [] (value n ∷ []))) ≡ total (longOf len len n ++ pick t [] (len n ∷ []))
     by below true = rw (append-nil (longOf len value n), append-nil (longOf len len n)) below
     by below false =
-        rw (flat-snoc (longOf len value n) (value n), length-append (flat (longOf len value n)) (value n), total-append (longOf len len n) (len n ∷ []), total-one, below, h n (omega arith))
+        rw (
+          flat-snoc (longOf len value n) (value n),
+          length-append (flat (longOf len value n)) (value n),
+          total-append (longOf len len n)
+              (len n ∷ []),
+          total-one,
+          below,
+          h n (omega arith),
+        )
 
 -- ---- the records of the blocks closed
 
-pub shut-starts : (c : Cut) (d : List ℕ) → length (c .done) < length d → set (front d (startsFrom 0 (c .done))) (length (c .done)) (total (c .done)) ≡ front d (startsFrom 0 (shut c .done))
+pub shut-starts : (c : Cut) (d : List ℕ) → length (c .done) < length d → set (front d (startsFrom 0 (c .done))) (length (c .done)) (total (c .done))
+    ≡ front d (startsFrom 0 (shut c .done))
 shut-starts c d h =
-    let z : startsFrom 0 (c .done ++ c .fill ∷ []) ≡ startsFrom 0 (c .done) ++ total (c .done) ∷ [] = starts-snoc 0 (c .done) (c .fill) ∙ rw (zero-add (total (c .done))) in
-    front-set d (startsFrom 0 (c .done)) (length (c .done)) (total (c .done)) (sym (length-starts 0 (c .done))) (rw (length-starts 0 (c .done)) h) ∙ ap (front d) (sym z)
+    let z : startsFrom 0 (c .done ++ c .fill ∷ []) ≡ startsFrom 0 (c .done) ++ total (c .done) ∷ [] = starts-snoc 0 (c .done) (c .fill)
+    ∙ rw (zero-add (total (c .done))) in
+    front-set d (startsFrom 0 (c .done)) (length (c .done)) (total (c .done)) (sym (length-starts 0 (c .done))) (rw (length-starts 0 (c .done)) h)
+    ∙ ap (front d) (sym z)
 
 pub shut-lens : (c : Cut) (d : List ℕ) → length (c .done) < length d → set (front d (c .done)) (length (c .done)) (c .fill) ≡ front d (shut c .done)
 shut-lens c d h = front-set d (c .done) (length (c .done)) (c .fill) refl h
@@ -84,7 +96,8 @@ module _ (most n : ℕ) (c : Cut) (s : Stand) (e : s ≡ standOf c) where
   unfolding closedAt ifLe roomFor standOf
   closed-starts d l h g = rw (e, g) (by (leb (c .fill + n) most))
     where
-      by : (t : Bool) → pick t (front d (startsFrom 0 (c .done))) (set (front d (startsFrom 0 (c .done))) (length (c .done)) (total (c .done))) ≡ front d (startsFrom 0 (pick t c (shut c) .done))
+      by : (t : Bool) → pick t (front d (startsFrom 0 (c .done))) (set (front d (startsFrom 0 (c .done))) (length (c .done)) (total (c .done)))
+          ≡ front d (startsFrom 0 (pick t c (shut c) .done))
       by true = refl
       by false = shut-starts c d h
 
@@ -100,7 +113,8 @@ closed-is : (c : Cut) → standOf c .closed ≡ length (c .done)
 unfolding standOf
 closed-is c = refl
 
-cut-is : (most : ℕ) (len : ℕ → ℕ) (k : ℕ) → isShort (len k) ≡ false → cutAll most (longOf len len (suc k)) ≡ add (len k) (roomFor most (len k) (cutAll most (longOf len len k)))
+cut-is : (most : ℕ) (len : ℕ → ℕ) (k : ℕ) → isShort (len k) ≡ false → cutAll most (longOf len len (suc k))
+    ≡ add (len k) (roomFor most (len k) (cutAll most (longOf len len k)))
 cut-is most len k e = rw (long-long len len k e) (cut-snoc most (longOf len len k) (len k))
 
 -- ---- one row more
@@ -111,7 +125,8 @@ module _ (most : ℕ) (view value : ℕ → List ℕ) (k : ℕ) where
   view-short e = rw e
 
   pub view-long : isShort (lengthOf (view k)) ≡ false
-      → viewBy most view value k ≡ placedBy (roomFor most (lengthOf (view k)) (cutAll most (longOf (λ r. lengthOf (view r)) (λ r. lengthOf (view r)) k))) (value k)
+      → viewBy most view value k ≡ placedBy (roomFor most (lengthOf (view k)) (cutAll most (longOf (λ r. lengthOf (view r)) (λ r. lengthOf (view r))
+      k))) (value k)
   unfolding viewBy
   view-long e = rw e
 
@@ -146,7 +161,8 @@ module _ (most : ℕ) (view value : ℕ → List ℕ) (vs₀ bs₀ : List ℕ) (
         views = rw (view-long most view value k e, ← l .views)
             (p .views ∙ ap (λ (u : Stand). paste vs (viewSize * k) (longView (value k) (u .closed) (u .fill)) viewSize) room-is);
         bytes = rw (long-long len value k e, flat-snoc (longOf len value k) (value k))
-            (p .bytes ∙ ap (λ (b : List ℕ). paste b (s .base + s .fill) (value k) (length (value k))) (l .bytes) ∙ front-paste bs₀ (flat (longOf len value k)) (value k) (s .base + s .fill) place-is);
+            (p .bytes ∙ ap (λ (b : List ℕ). paste b (s .base + s .fill) (value k) (length (value k))) (l .bytes)
+            ∙ front-paste bs₀ (flat (longOf len value k)) (value k) (s .base + s .fill) place-is);
         stand = rw (cut-is most len k e) (p .next ∙ rw n (ap (addStand (len k)) (rw n at room-is)));
       }
 
@@ -167,14 +183,16 @@ pub tabled-none : (most : ℕ) (view : ℕ → List ℕ) (ss ns : List ℕ) → 
 unfolding longOf cutAll cutFrom startsFrom standOf total
 tabled-none most view ss ns = record { starts = refl; lens = refl; stand = refl }
 
-module _ (most : ℕ) (view : ℕ → List ℕ) (ss₀ ns₀ : List ℕ) (k : ℕ) (ss ns : List ℕ) (s t : Stand) (ss′ ns′ : List ℕ) (l : Tabled most view ss₀ ns₀ k ss ns s) where
+module _ (most : ℕ) (view : ℕ → List ℕ) (ss₀ ns₀ : List ℕ) (k : ℕ) (ss ns : List ℕ) (s t : Stand) (ss′ ns′ : List ℕ) (l : Tabled most view ss₀ ns₀ k
+    ss ns s) where
   abbrev size : ℕ → ℕ
   size r = lengthOf (view r)
 
   abbrev before : Cut
   before = cutAll most (longOf size size k)
 
-  pub tabled-next : (shortMost < size k → (s .closed < length ss₀) × (s .closed < length ns₀)) → TablePut most (size k) s ss ns t ss′ ns′ → Tabled most view ss₀ ns₀ (suc k) ss′ ns′ t
+  pub tabled-next : (shortMost < size k → (s .closed < length ss₀) × (s .closed < length ns₀)) → TablePut most (size k) s ss ns t ss′ ns′
+      → Tabled most view ss₀ ns₀ (suc k) ss′ ns′ t
   unfolding recordedAt ifLe
   tabled-next room p = by (isShort (size k)) refl (p .starts) (p .lens)
     where
@@ -230,7 +248,8 @@ module _ (most : ℕ) (view : ℕ → List ℕ) where
       let r = stand-rises n in
       record { blocks = omega arith; bytes = omega arith })
 
-  pub long-below : (k n : ℕ) → k < n → shortMost < lengthOf (view k) → standAt most view k .base + standAt most view k .fill + lengthOf (view k) ≤ standAt most view n .base + standAt most view n .fill
+  pub long-below : (k n : ℕ) → k < n → shortMost < lengthOf (view k) → standAt most view k .base + standAt most view k .fill + lengthOf (view k)
+      ≤ standAt most view n .base + standAt most view n .fill
   long-below k n h g = let b = stand-below (suc k) n h in let r = stand-rises k in omega (arith, r .long g)
 
 -- ---- the last block
@@ -271,7 +290,12 @@ module _ (most : ℕ) (view : ℕ → List ℕ) (n : ℕ) where
       by : (t : Bool) → eqb (s .base + s .fill) 0 ≡ t → length (cutLens most lens-of) ≡ pick t 0 (s .closed + 1)
       by true h = ap length (lens-none (rw e at (eqb-true (s .base + s .fill) 0 h)) .0)
       by false h =
-          rw (lens-some (rw e at (eqb-false (s .base + s .fill) 0 h)), length-append (cutAll most lens-of .done) (cutAll most lens-of .fill ∷ []), e, closed-is (cutAll most lens-of))
+          rw (
+            lens-some (rw e at (eqb-false (s .base + s .fill) 0 h)),
+            length-append (cutAll most lens-of .done) (cutAll most lens-of .fill ∷ []),
+            e,
+            closed-is (cutAll most lens-of),
+          )
 
 -- the blocks have all bytes
 pub lens-total : (most : ℕ) (ns : List ℕ) → total (cutLens most ns) ≡ total ns
@@ -282,7 +306,9 @@ lens-total most (n ∷ ns) =
     total-append (c .done) (c .fill ∷ []) ∙ rw total-one (cut-total most (n ∷ ns))
 
 -- by the code's numbers
-pub tabled-step : (most : ℕ) (view : ℕ → List ℕ) (ss₀ ns₀ : List ℕ) (k n : ℕ) (ss ns : List ℕ) (s t : Stand) (ss′ ns′ : List ℕ) → n ≡ lengthOf (view k) → Tabled most view ss₀ ns₀ k ss ns s
-    → (shortMost < lengthOf (view k) → (s .closed < length ss₀) × (s .closed < length ns₀)) → TablePut most n s ss ns t ss′ ns′ → Tabled most view ss₀ ns₀ (k + 1) ss′ ns′ t
+pub tabled-step : (most : ℕ) (view : ℕ → List ℕ) (ss₀ ns₀ : List ℕ) (k n : ℕ) (ss ns : List ℕ) (s t : Stand) (ss′ ns′ : List ℕ)
+    → n ≡ lengthOf (view k) → Tabled most view ss₀ ns₀ k ss ns s
+    → (shortMost < lengthOf (view k) → (s .closed < length ss₀) × (s .closed < length ns₀)) → TablePut most n s ss ns t ss′ ns′
+    → Tabled most view ss₀ ns₀ (k + 1) ss′ ns′ t
 tabled-step most view ss₀ ns₀ k n ss ns s t ss′ ns′ e l room p =
     rw (add-one k) (tabled-next most view ss₀ ns₀ k ss ns s t ss′ ns′ l room (subst (λ (m : ℕ). TablePut most m s ss ns t ss′ ns′) e p))

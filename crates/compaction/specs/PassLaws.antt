@@ -25,7 +25,8 @@ use borrow.Author.Tests.{eq-eqb}
 use Rattle.laying.specs.Written.{startsFrom, total}
 use Rattle.laying.specs.WrittenLaws.{front-one, total-one}
 
-module _ (most : ℕ) (views bytes starts lens : List ℕ) (c : Column) (vs₀ bs₀ : List ℕ) (g : Source views starts lens c) (w : WriteIn most (bare views bytes starts lens) c vs₀ bs₀) where
+module _ (most : ℕ) (views bytes starts lens : List ℕ) (c : Column) (vs₀ bs₀ : List ℕ) (g : Source views starts lens c)
+    (w : WriteIn most (bare views bytes starts lens) c vs₀ bs₀) where
   abbrev src : Lent
   src = bare views bytes starts lens
 
@@ -36,10 +37,12 @@ module _ (most : ℕ) (views bytes starts lens : List ℕ) (c : Column) (vs₀ b
   row-reach k h = true-reach src (c .kind) (c .blocks) (rowView src c k) (w .truth k h)
 
   pub row-sized : (k : ℕ) → k < c .rows → length (valueAt src c k) ≡ lenAt src c k
-  row-sized k h = length-shown views bytes starts lens [] (c .blocks) (rowView src c k) (g .starts) (g .lens) (length-view views (c .first + k) (row-there k h .row)) (row-reach k h)
+  row-sized k h = length-shown views bytes starts lens [] (c .blocks) (rowView src c k) (g .starts) (g .lens) (length-view views (c .first + k)
+      (row-there k h .row)) (row-reach k h)
 
   -- a row's room, where the walk stands before it
-  pub row-in : (k : ℕ) → k < c .rows → (vs bs : List ℕ) (s : Stand) → s ≡ standAt most (rowView src c) k → length vs ≡ length vs₀ → length bs ≡ length bs₀ → RowIn (lenAt src c k) vs bs k s
+  pub row-in : (k : ℕ) → k < c .rows → (vs bs : List ℕ) (s : Stand) → s ≡ standAt most (rowView src c) k → length vs ≡ length vs₀ → length bs
+      ≡ length bs₀ → RowIn (lenAt src c k) vs bs k s
   row-in k h vs bs s e lv lb =
       record {
         row = omega (arith, w .rows);
@@ -116,8 +119,10 @@ module _ (most : ℕ) (view : ℕ → List ℕ) (n b t : ℕ) (ss ns : List ℕ)
   table-one w e =
       let s : Stand = standAt most view n in
       let c = count-blocks most view n s refl in
-      let some : (s .base + s .fill ≡ 0 → ⊥) = λ z. (let u : length (cutLens most of-long) ≡ 0 = rw (eq-eqb (s .base + s .fill) 0 z) at c in omega (arith, q .blocks)) in
-      by-cases (ℕ-discrete (s .base + s .fill) 0) (λ z. absurd (some z)) (λ z. let p = w .starts (omega arith) in let r = w .lens (omega arith) in (omega arith, omega arith))
+      let some : (s .base + s .fill ≡ 0 → ⊥) = λ z. (let u : length (cutLens most of-long) ≡ 0 = rw (eq-eqb (s .base + s .fill) 0 z) at c in
+      omega (arith, q .blocks)) in
+      by-cases (ℕ-discrete (s .base + s .fill) 0) (λ z. absurd (some z)) (λ z. let p = w .starts (omega arith) in let r = w .lens (omega arith) in
+      (omega arith, omega arith))
 
   pub listed-one : TableIn (standAt most view n) ss ns → b ≡ 1 → Listed most view n ss ns (set ss 0 0) (set ns 0 t)
   unfolding startsFrom

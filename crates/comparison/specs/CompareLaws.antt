@@ -28,7 +28,8 @@ compare-true l m k k′ n n′ v w hv hw p q = rows-compare (true-row l k n v hv
 
 -- two rows of columns that fit, each true for some kind
 module _ (l : Lent) (c : Column) (i : ℕ) (m : Lent) (d : Column) (j : ℕ) (k k′ : Kind)
-    (fit : fits l c ≡ true) (fit2 : fits m d ≡ true) (row : i < c .rows) (row2 : j < d .rows) (sure : trueAt k l c i ≡ true) (sure2 : trueAt k′ m d j ≡ true) where
+    (fit : fits l c ≡ true) (fit2 : fits m d ≡ true) (row : i < c .rows) (row2 : j < d .rows) (sure : trueAt k l c i ≡ true) (sure2 : trueAt k′ m d j
+    ≡ true) where
   accepted : whyCompare l c i m d j ≡ Accepted
   unfolding whyCompare bothOf isTrue
   accepted =

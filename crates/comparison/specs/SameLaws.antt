@@ -57,7 +57,8 @@ module _ (l : Lent) (c : Column) where
       (not-false _ (p .0), lowest-good (reachableAt l c) (c .rows) why.Accepted (p .1) .0)
 
 module _ (l : Lent) (c : Column) (m : Lent) (d : Column) where
-  module _ (r : ℕ) (v w : Bool) (hv : v ≡ bits.validAt (l .nulls) (c .mapped) (c .first + r)) (hw : w ≡ bits.validAt (m .nulls) (d .mapped) (d .first + r)) where
+  module _ (r : ℕ) (v w : Bool) (hv : v ≡ bits.validAt (l .nulls) (c .mapped) (c .first + r)) (hw : w ≡ bits.validAt (m .nulls) (d .mapped)
+      (d .first + r)) where
     pub bits-differ : not (Bool·beq v w) ≡ true → false ≡ sameRow l c m d r
     unfolding sameRow validAt alike
     bits-differ ne = rw (← hv, ← hw) (by v w ne)
@@ -68,7 +69,8 @@ module _ (l : Lent) (c : Column) (m : Lent) (d : Column) where
         by false true ne = refl
         by false false ne = let z : _≡_ {A = ℕ} 0 1 = cc in absurd (omega arith)
 
-    pub bits-alike : not (Bool·beq v w) ≡ false → (t : Bool) → t ≡ same (shown (blocksOf l (c .blocks)) (rowView l c r)) (shown (blocksOf m (d .blocks)) (rowView m d r)) → t ≡ sameRow l c m d r
+    pub bits-alike : not (Bool·beq v w) ≡ false → (t : Bool) → t ≡ same (shown (blocksOf l (c .blocks)) (rowView l c r))
+        (shown (blocksOf m (d .blocks)) (rowView m d r)) → t ≡ sameRow l c m d r
     unfolding sameRow validAt shownAt alike
     bits-alike e t h = rw (← hv, ← hw, ← h) (by v w e)
       where

@@ -42,7 +42,8 @@ module _ (w v : Why) where
   module _ (r s : Refusal) (a b : ℕ) (ew : w ≡ why.Refused r) (ev : v ≡ why.Refused s) (ea : a ≡ numberOf r) (eb : b ≡ numberOf s) where
     by-number : (t : Bool) → leb a b ≡ t → pick t (Left r) (Right s) ≡ bothOf w v
     unfolding bothOf
-    by-number t h = verdict-is (why.Refused r) (why.Refused s) (pick t (Left r) (Right s)) ew ev (ap (λ (o : Bool). pick o (Left r) (Right s)) (sym h ∙ ap₂ leb ea eb))
+    by-number t h = verdict-is (why.Refused r) (why.Refused s) (pick t (Left r) (Right s)) ew ev (ap (λ (o : Bool). pick o (Left r) (Right s)) (sym h
+        ∙ ap₂ leb ea eb))
 
     pub left-lower : a ≤ b → Left r ≡ bothOf w v
     left-lower h = by-number true (le-leb a b h)
@@ -72,7 +73,8 @@ comparable l c i m d j h =
     record { fit = q .fit; fit2 = r .fit; row = q .row; row2 = r .row; reach = q .reach; reach2 = r .reach }
 
 -- the verdict on two rows by where the value of each stands
-pub both-is : (l : Lent) (c : Column) (i : ℕ) (m : Lent) (d : Column) (j : ℕ) (w v : Why) (r : Verdict) → w ≡ whyValue l c i → v ≡ whyValue m d j → r ≡ bothOf w v → r ≡ whyCompare l c i m d j
+pub both-is : (l : Lent) (c : Column) (i : ℕ) (m : Lent) (d : Column) (j : ℕ) (w v : Why) (r : Verdict) → w ≡ whyValue l c i → v ≡ whyValue m d j
+    → r ≡ bothOf w v → r ≡ whyCompare l c i m d j
 unfolding whyCompare
 both-is l c i m d j w v r ew ev er = er ∙ ap₂ bothOf ew ev
 

@@ -19,7 +19,8 @@ overlap d s t y m o h k et ey =
     let front : take o t ≡ take o s = rw begun (take-append-le o (take m s) (drop m d) (omega arith) ∙ take-take o m s h) in
     let rest : drop m t ≡ drop m d = rw begun (drop-at (take m s) (drop m d) m lm) in
     let at : m + (length s - m) ≡ length s = omega arith in
-    let back : drop (length s) t ≡ drop (length s) d = rw (← at) (sym (drop-drop (length s - m) m t) ∙ ap (drop (length s - m)) rest ∙ drop-drop (length s - m) m d) in
+    let back : drop (length s) t ≡ drop (length s) d = rw (← at) (sym (drop-drop (length s - m) m t) ∙ ap (drop (length s - m)) rest
+    ∙ drop-drop (length s - m) m d) in
     let e : o + length (drop o s) ≡ length s = simp length-drop (omega arith) in
     tail-back o t y (drop o s) lent
     ∙ rw (front, e, back, ← append-assoc (take o s) (drop o s) (drop (length s) d), take-append-drop o s)

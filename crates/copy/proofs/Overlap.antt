@@ -79,7 +79,8 @@ module _ (s d : List ℕ) (hb : Bytes s) (h : length s ≤ length d) where
       (λ a. absurd (omega arith)))
       (λ k g. put-above (putWord d 0 x 8) (n - 8) y 8 k (omega arith) ∙ put-above d 0 x 8 k (omega arith))
 
-  pub four-words : (x y z w : ℕ) → 16 ≤ length s → length s ≤ 32 → x ≡ wordAt s 0 8 → y ≡ wordAt s 8 8 → z ≡ wordAt s (length s - 16) 8 → w ≡ wordAt s (length s - 8) 8
+  pub four-words : (x y z w : ℕ) → 16 ≤ length s → length s ≤ 32 → x ≡ wordAt s 0 8 → y ≡ wordAt s 8 8 → z ≡ wordAt s (length s - 16) 8
+      → w ≡ wordAt s (length s - 8) 8
       → putWord (putWord (putWord (putWord d 0 x 8) 8 y 8) (length s - 16) z 8) (length s - 8) w 8 ≡ s ++ drop (length s) d
   four-words x y z w p q ex ey ez ew =
       let n : ℕ = length s in
@@ -97,4 +98,5 @@ module _ (s d : List ℕ) (hb : Bytes s) (h : length s ≤ length d) where
       (λ e. absurd (omega arith)))
       (λ b. absurd (omega arith)))
       (λ a. absurd (omega arith)))
-      (λ k g. put-above d₃ (n - 8) w 8 k (omega arith) ∙ put-above d₂ (n - 16) z 8 k (omega arith) ∙ put-above d₁ 8 y 8 k (omega arith) ∙ put-above d 0 x 8 k (omega arith))
+      (λ k g. put-above d₃ (n - 8) w 8 k (omega arith) ∙ put-above d₂ (n - 16) z 8 k (omega arith) ∙ put-above d₁ 8 y 8 k (omega arith)
+      ∙ put-above d 0 x 8 k (omega arith))

@@ -8,13 +8,15 @@ use lib.Seq.{take-at, drop-at, take-add, length-take-le, take-length, drop-lengt
 use Rattle.copy.specs.Over.{over, copied}
 
 -- the tail of t from o on is lent to a copy of v, and comes back
-pub tail-back : (o : ℕ) (t y v : List ℕ) → y ≡ over v (take (length t - o) (drop o t)) → take o t ++ (y ++ drop (length t - o) (drop o t)) ≡ take o t ++ (v ++ drop (o + length v) t)
+pub tail-back : (o : ℕ) (t y v : List ℕ) → y ≡ over v (take (length t - o) (drop o t)) → take o t ++ (y ++ drop (length t - o) (drop o t))
+    ≡ take o t ++ (v ++ drop (o + length v) t)
 tail-back o t y v e =
     let k : length t - o ≡ length (drop o t) = sym (length-drop o t) in
     rw (e, k, take-length, drop-length, append-nil, drop-drop)
 
 -- .. which is v pasted at o
-pub tail-paste : (o : ℕ) (t y v : List ℕ) → y ≡ over v (take (length t - o) (drop o t)) → take o t ++ (y ++ drop (length t - o) (drop o t)) ≡ paste t o v (length v)
+pub tail-paste : (o : ℕ) (t y v : List ℕ) → y ≡ over v (take (length t - o) (drop o t)) → take o t ++ (y ++ drop (length t - o) (drop o t))
+    ≡ paste t o v (length v)
 tail-paste o t y v e = tail-back o t y v e ∙ rw (take-length v, append-assoc (take o t) v (drop (o + length v) t))
 
 pub copied-none : (d s : List ℕ) → d ≡ copied d s 0
@@ -26,7 +28,8 @@ unfolding copied
 copied-all d s o e = rw (e, take-length)
 
 -- a copy of o elements whose tail is lent to a copy of the next m: a copy of o + m
-pub copied-more : (d s t y : List ℕ) (o m : ℕ) → o + m ≤ length s → t ≡ copied d s o → y ≡ take m (drop o s) ++ drop (length (take m (drop o s))) (take (length t - o) (drop o t))
+pub copied-more : (d s t y : List ℕ) (o m : ℕ) → o + m ≤ length s → t ≡ copied d s o → y ≡ take m (drop o s) ++ drop (length (take m (drop o s)))
+    (take (length t - o) (drop o t))
     → take o t ++ (y ++ drop (length t - o) (drop o t)) ≡ copied d s (o + m)
 unfolding copied
 copied-more d s t y o m h et ey =

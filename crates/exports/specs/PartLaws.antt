@@ -40,7 +40,8 @@ module _ (n : ℕ) (p q : Place) (e : p ≡ q) where
   suffix-some h = rw (← e, le-leb n (p .len) h)
 
 -- the first n bytes of a part, and the last n
-part-prefix : (n off len : ℕ) (b : List ℕ) → length (take len (drop off b)) ≡ len → take (pick (leb n len) n 0) (drop off b) ≡ prefixOf n (take len (drop off b))
+part-prefix : (n off len : ℕ) (b : List ℕ) → length (take len (drop off b)) ≡ len → take (pick (leb n len) n 0) (drop off b)
+    ≡ prefixOf n (take len (drop off b))
 unfolding prefixOf
 part-prefix n off len b h = rw h (by (leb n len) refl)
   where
@@ -69,10 +70,12 @@ module _ (views bytes nulls : List ℕ) (table : List Block) (c : Column) (r : �
   unfolding named prefixPlace prefixAt
   prefix-named n =
       let p = placeAt lent-whole c r in
-      rw (← place-named views bytes nulls table c r) (part-prefix n (p .offset) (p .len) (pick (eqb (p .buffer) 0) views bytes) (named-length views bytes nulls table c r))
+      rw (← place-named views bytes nulls table c r) (part-prefix n (p .offset) (p .len) (pick (eqb (p .buffer) 0) views bytes)
+      (named-length views bytes nulls table c r))
 
   pub suffix-named : (n : ℕ) → named lent-whole (suffixPlace n (placeAt lent-whole c r)) ≡ suffixAt lent-whole c r n
   unfolding named suffixPlace suffixAt
   suffix-named n =
       let p = placeAt lent-whole c r in
-      rw (← place-named views bytes nulls table c r) (part-suffix n (p .offset) (p .len) (pick (eqb (p .buffer) 0) views bytes) (named-length views bytes nulls table c r))
+      rw (← place-named views bytes nulls table c r) (part-suffix n (p .offset) (p .len) (pick (eqb (p .buffer) 0) views bytes)
+      (named-length views bytes nulls table c r))

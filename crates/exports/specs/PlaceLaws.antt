@@ -64,15 +64,18 @@ module _ (views bytes nulls : List ℕ) (table : List Block) where
         view : List ℕ
         view = viewAt views (c .first + r)
 
-        at-spot : c .first + r < rowLimit → (s : Spot) → Stood (dataRoom l) (c .blocks) (blockAt l (blockOf view)) view (c .first + r) s → placeOf s .offset + placeOf s .len ≤ byteLimit
+        at-spot : c .first + r < rowLimit → (s : Spot) → Stood (dataRoom l) (c .blocks) (blockAt l (blockOf view)) view (c .first + r) s
+            → placeOf s .offset + placeOf s .len ≤ byteLimit
         at-spot h (spot.View o n) (in-views f) = omega (arith, row-limit-is, byte-limit-is)
         at-spot h (spot.Data o n) (in-data a b d g) = omega arith
         at-spot h spot.NoBlock (no-block a b) = omega arith
         at-spot h spot.Outside (outside a b) = omega arith
 
         by : (w : Why) → whyValue l c r ≡ w
-            → placeTold (locatedBy w (spotIn l (c .blocks) view (c .first + r))) .offset + placeTold (locatedBy w (spotIn l (c .blocks) view (c .first + r))) .len ≤ byteLimit
+            → placeTold (locatedBy w (spotIn l (c .blocks) view (c .first + r))) .offset + placeTold
+            (locatedBy w (spotIn l (c .blocks) view (c .first + r))) .len ≤ byteLimit
         by Accepted q =
             let g = value-readable l c r (ap isAccepted q) in
-            at-spot (fits-limit views bytes nulls table c r (g .fit) (g .row)) (spotIn l (c .blocks) view (c .first + r)) (stood (dataRoom l) (c .blocks) (blockAt l (blockOf view)) view (c .first + r))
+            at-spot (fits-limit views bytes nulls table c r (g .fit) (g .row)) (spotIn l (c .blocks) view (c .first + r))
+            (stood (dataRoom l) (c .blocks) (blockAt l (blockOf view)) view (c .first + r))
         by (Refused z) q = omega arith

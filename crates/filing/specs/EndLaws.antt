@@ -38,7 +38,8 @@ module _ (s : State) (vs bs ms ps : List ℕ) (n : ℕ) where
   abbrev pub nullBy : ℕ → ℕ → ℕ → Why
   nullBy rows blocks bytes = refuse Fit (not (fitsRooms s rows blocks bytes)) (refuse RowRoom (leb rows (s .rows)) Accepted)
 
-  module _ (rows blocks bytes : ℕ) (er : rows ≡ roomOfRows (s .merging) (length vs) (length ms) (length ps)) (eb : blocks ≡ roomOfBlocks n n) (ed : bytes ≡ roomOfBytes (length bs))
+  module _ (rows blocks bytes : ℕ) (er : rows ≡ roomOfRows (s .merging) (length vs) (length ms) (length ps)) (eb : blocks ≡ roomOfBlocks n n)
+      (ed : bytes ≡ roomOfBytes (length bs))
       (w : Why) (ew : w ≡ nullBy rows blocks bytes) where
     verdict : (ss ns : List ℕ) → n ≡ length ss → n ≡ length ns → w ≡ whyNull (held s vs bs ss ns ms ps)
     verdict ss ns es en = ew ∙ null-is s vs bs ss ns ms ps rows blocks bytes er (eb ∙ blocks-room n ss ns es en) ed
@@ -50,9 +51,11 @@ module _ (s : State) (vs bs ms ps : List ℕ) (n : ℕ) where
     null-no h =
         over (λ t. Files whyNull putNull s vs bs t ms ps (answer w s) vs bs t ms ps) n (λ ss ns es en.
         let e = verdict ss ns es en in
-        files-of whyNull putNull s vs bs ss ns ms ps (tableOf ss ns) (does-no whyNull putNull s vs bs ss ns ms ps w e h) (table-no whyNull putNull s vs bs ss ns ms ps w e h))
+        files-of whyNull putNull s vs bs ss ns ms ps (tableOf ss ns) (does-no whyNull putNull s vs bs ss ns ms ps w e h) (table-no whyNull putNull s
+        vs bs ss ns ms ps w e h))
 
-    pub null-yes : {s′ : State} {vs′ ms′ : List ℕ} → isAccepted w ≡ true → s′ ≡ rowed false s → vs′ ≡ paste vs (16 * s .rows) zeroView 16 → ms′ ≡ putBit ms (s .rows) false
+    pub null-yes : {s′ : State} {vs′ ms′ : List ℕ} → isAccepted w ≡ true → s′ ≡ rowed false s → vs′ ≡ paste vs (16 * s .rows) zeroView 16
+        → ms′ ≡ putBit ms (s .rows) false
         → (t : List Block) → n ≡ length t → Files whyNull putNull s vs bs t ms ps (answer Accepted s′) vs′ bs t ms′ ps
     unfolding putNull addRow
     null-yes {s′} {vs′} {ms′} h st v m =
@@ -83,11 +86,14 @@ module _ (s : State) (vs bs ms ps : List ℕ) (n : ℕ) where
         d .1,
       ))
 
-  module _ (fit : fitsBy s vs bs ms ps n ≡ true) (c : Column) (ec : c ≡ columnOf (filed s vs bs [] ms ps)) (k : ℕ) (b : Block) (put-is : (t : List Block) → n ≡ length t → set t k b ≡ openTable s t) where
-    pub ended-copied : (t : List Block) → n ≡ length t → Files whyFinish copied s vs bs t ms ps (answer Accepted s) vs bs (set t k b) ms ps × (c ≡ finishColumn (filed s vs bs t ms ps))
+  module _ (fit : fitsBy s vs bs ms ps n ≡ true) (c : Column) (ec : c ≡ columnOf (filed s vs bs [] ms ps)) (k : ℕ) (b : Block)
+      (put-is : (t : List Block) → n ≡ length t → set t k b ≡ openTable s t) where
+    pub ended-copied : (t : List Block) → n ≡ length t → Files whyFinish copied s vs bs t ms ps (answer Accepted s) vs bs (set t k b) ms ps
+        × (c ≡ finishColumn (filed s vs bs t ms ps))
     unfolding copied
     ended-copied =
-        over (λ t. Files whyFinish copied s vs bs t ms ps (answer Accepted s) vs bs (set t k b) ms ps × (c ≡ finishColumn (filed s vs bs t ms ps))) n (λ ss ns es en.
+        over (λ t. Files whyFinish copied s vs bs t ms ps (answer Accepted s) vs bs (set t k b) ms ps × (c ≡ finishColumn (filed s vs bs t ms ps))) n
+        (λ ss ns es en.
         let f = sym (fits-by s vs bs ms ps n ss ns es en) ∙ fit in
         let g = fits-gives s vs bs ss ns ms ps f in
         let d = does-copied s vs bs ss ns ms ps f (g .starts) (g .lens) refl refl c ec in (
@@ -98,10 +104,12 @@ module _ (s : State) (vs bs ms ps : List ℕ) (n : ℕ) where
         ))
 
     pub ended-finished : (st : State) {ps′ : List ℕ} → st ≡ emptyState (s .kind) (s .growth) (s .merging) → ps′ ≡ cleared (s .merging) ps
-        → (t : List Block) → n ≡ length t → Files whyFinish finished s vs bs t ms ps (answer Accepted st) vs bs (set t k b) ms ps′ × (c ≡ finishColumn (filed s vs bs t ms ps))
+        → (t : List Block) → n ≡ length t → Files whyFinish finished s vs bs t ms ps (answer Accepted st) vs bs (set t k b) ms ps′
+        × (c ≡ finishColumn (filed s vs bs t ms ps))
     unfolding finished
     ended-finished st {ps′} e p =
-        over (λ t. Files whyFinish finished s vs bs t ms ps (answer Accepted st) vs bs (set t k b) ms ps′ × (c ≡ finishColumn (filed s vs bs t ms ps))) n (λ ss ns es en.
+        over (λ t. Files whyFinish finished s vs bs t ms ps (answer Accepted st) vs bs (set t k b) ms ps′
+        × (c ≡ finishColumn (filed s vs bs t ms ps))) n (λ ss ns es en.
         let f = sym (fits-by s vs bs ms ps n ss ns es en) ∙ fit in
         let g = fits-gives s vs bs ss ns ms ps f in
         let d = does-finished s vs bs ss ns ms ps f (g .starts) (g .lens) refl refl c ec st e p in (

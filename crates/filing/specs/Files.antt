@@ -21,7 +21,8 @@ unfoldable pub openTable : State → List Block → List Block
 openTable s t = pick (isOpen s) (set t (s .blocks) (block (s .base) (s .fill))) t
 
 -- A call: its verdict beside the state that it leaves, and each buffer at exit, of the buffers at entry.
-pub record Files (why : Builder → Why) (put : Builder → Builder) (s : State) (vs bs : List ℕ) (t : List Block) (ms ps : List ℕ) (r : Answer) (vs′ bs′ : List ℕ) (t′ : List Block) (ms′ ps′ : List ℕ) : Type 0 where
+pub record Files (why : Builder → Why) (put : Builder → Builder) (s : State) (vs bs : List ℕ) (t : List Block) (ms ps : List ℕ) (r : Answer)
+    (vs′ bs′ : List ℕ) (t′ : List Block) (ms′ ps′ : List ℕ) : Type 0 where
   pub answers : r ≡ answer (why (filed s vs bs t ms ps)) (left why put (filed s vs bs t ms ps) .state)
   pub views : vs′ ≡ left why put (filed s vs bs t ms ps) .lent .views
   pub bytes : bs′ ≡ left why put (filed s vs bs t ms ps) .lent .bytes

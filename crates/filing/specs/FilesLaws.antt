@@ -62,7 +62,8 @@ blocks-room n ss ns e f = λ i. roomOfBlocks (e i) (f i)
 
 -- from a call over the two slices, and what it leaves of the table
 module _ (why : Builder → Why) (put : Builder → Builder) (s : State) (vs bs ss ns ms ps : List ℕ) where
-  pub files-of : {r : Answer} {vs′ bs′ ss′ ns′ ms′ ps′ : List ℕ} (t′ : List Block) → Does why put s vs bs ss ns ms ps r vs′ bs′ ss′ ns′ ms′ ps′ → t′ ≡ left why put (held s vs bs ss ns ms ps) .lent .table
+  pub files-of : {r : Answer} {vs′ bs′ ss′ ns′ ms′ ps′ : List ℕ} (t′ : List Block) → Does why put s vs bs ss ns ms ps r vs′ bs′ ss′ ns′ ms′ ps′
+      → t′ ≡ left why put (held s vs bs ss ns ms ps) .lent .table
       → Files why put s vs bs (tableOf ss ns) ms ps r vs′ bs′ t′ ms′ ps′
   files-of t′ d e = record { answers = d .answers; views = d .views; bytes = d .bytes; table = e; nulls = d .nulls; places = d .places }
 
@@ -73,7 +74,8 @@ module _ (why : Builder → Why) (put : Builder → Builder) (s : State) (vs bs 
       go Accepted k d = absurd (let z : _≡_ {A = ℕ} 0 1 = cc in omega arith)
       go (Refused z) k d = rw (← d)
 
-  pub table-yes : (t′ : List Block) → why (held s vs bs ss ns ms ps) ≡ Accepted → t′ ≡ put (held s vs bs ss ns ms ps) .lent .table → t′ ≡ left why put (held s vs bs ss ns ms ps) .lent .table
+  pub table-yes : (t′ : List Block) → why (held s vs bs ss ns ms ps) ≡ Accepted → t′ ≡ put (held s vs bs ss ns ms ps) .lent .table
+      → t′ ≡ left why put (held s vs bs ss ns ms ps) .lent .table
   table-yes t′ e h = rw e h
 
 -- a record past the end is written nowhere

@@ -37,7 +37,8 @@ module _ (s : State) (views bytes count nulls places n : ℕ) where
   abbrev fits : Type 0
   fits = fitsRooms s (roomOfRows (s .merging) views nulls places) (roomOfBlocks count count) (roomOfBytes bytes) ≡ true
 
-  pub block-fit : fitsRooms s (roomOfRows (s .merging) views nulls places) (roomOfBlocks count count) (roomOfBytes bytes) ≡ false → Refused Fit ≡ blockBy s views bytes count nulls places n
+  pub block-fit : fitsRooms s (roomOfRows (s .merging) views nulls places) (roomOfBlocks count count) (roomOfBytes bytes) ≡ false → Refused Fit
+      ≡ blockBy s views bytes count nulls places n
   unfolding blockBy refuse
   block-fit h = rw h
 
@@ -56,7 +57,8 @@ module _ (s : State) (views bytes count nulls places n : ℕ) where
       let d = leb-true (used s) (roomOfBytes bytes) (and-left u _ (and-right b _ h1)) in
       (omega (arith, k), omega (arith, d))
 
-  pub block-room : fits → n ≤ byteLimit → (w : Why) (p q : ℕ) → p ≡ roomOfBlocks count count → q ≡ roomOfBytes bytes → w ≡ whyRoom s p q 1 n → w ≡ blockBy s views bytes count nulls places n
+  pub block-room : fits → n ≤ byteLimit → (w : Why) (p q : ℕ) → p ≡ roomOfBlocks count count → q ≡ roomOfBytes bytes → w ≡ whyRoom s p q 1 n
+      → w ≡ blockBy s views bytes count nulls places n
   unfolding blockBy refuse
   block-room h g w p q ep eq e = e ∙ rw (h, le-ltb byteLimit n g, ep, eq)
 
@@ -72,7 +74,8 @@ module _ (s : State) (vs bs ms ps x : List ℕ) (n : ℕ) (w : Why) (ew : w ≡ 
   pub laid-no : isAccepted w ≡ false → (b c : Block) → (t : List Block) → n ≡ length t
       → Files (λ d. whyBlock d x) (putBlock x) s vs bs t ms ps (answer w s) vs bs (set (set t n b) n c) ms ps × (0 ≡ blockNumber (filed s vs bs t ms ps) x)
   laid-no h b c =
-      over (λ t. Files (λ d. whyBlock d x) (putBlock x) s vs bs t ms ps (answer w s) vs bs (set (set t n b) n c) ms ps × (0 ≡ blockNumber (filed s vs bs t ms ps) x)) n (λ ss ns es en.
+      over (λ t. Files (λ d. whyBlock d x) (putBlock x) s vs bs t ms ps (answer w s) vs bs (set (set t n b) n c) ms ps
+      × (0 ≡ blockNumber (filed s vs bs t ms ps) x)) n (λ ss ns es en.
       let e = verdict ss ns es en in
       let d = does-not-block s vs bs ss ns ms ps x w e h in
       let l = table-length n ss ns es en in
@@ -82,18 +85,22 @@ module _ (s : State) (vs bs ms ps x : List ℕ) (n : ℕ) (w : Why) (ew : w ≡ 
         d .1,
       ))
 
-  pub laid-yes : (t : State) {u : State} {bs′ : List ℕ} (k : ℕ) (b : Block) → isAccepted w ≡ true → t ≡ closed s → u ≡ blockMore (length x) t → bs′ ≡ paste bs (t .base) x (length x)
+  pub laid-yes : (t : State) {u : State} {bs′ : List ℕ} (k : ℕ) (b : Block) → isAccepted w ≡ true → t ≡ closed s → u ≡ blockMore (length x) t
+      → bs′ ≡ paste bs (t .base) x (length x)
       → ((z : List Block) → n ≡ length z → set z k b ≡ openTable s z) → (z : List Block) → n ≡ length z
       → Files (λ d. whyBlock d x) (putBlock x) s vs bs z ms ps (answer Accepted u) vs bs′ (set (set z k b) (t .blocks) (block (t .base) (length x))) ms ps
       × (t .blocks ≡ blockNumber (filed s vs bs z ms ps) x)
   unfolding putBlock layBlock complete closed
   laid-yes t {u} {bs′} k b h et eu eb ek =
-      over (λ z. Files (λ d. whyBlock d x) (putBlock x) s vs bs z ms ps (answer Accepted u) vs bs′ (set (set z k b) (t .blocks) (block (t .base) (length x))) ms ps × (t .blocks ≡ blockNumber (filed s vs bs z ms ps) x)) n (λ ss ns es en.
+      over (λ z. Files (λ d. whyBlock d x) (putBlock x) s vs bs z ms ps (answer Accepted u) vs bs′ (set (set z k b) (t .blocks)
+      (block (t .base) (length x))) ms ps × (t .blocks ≡ blockNumber (filed s vs bs z ms ps) x)) n (λ ss ns es en.
       let e = verdict ss ns es en in
       let d = does-block s vs bs ss ns ms ps x w t e h et refl refl eu eb refl refl in
-      let first : set (tableOf ss ns) k b ≡ recorded s (held s vs bs ss ns ms ps .lent) .table = ek (tableOf ss ns) (table-length n ss ns es en) ∙ recorded-table s vs bs ss ns ms in (
+      let first : set (tableOf ss ns) k b ≡ recorded s (held s vs bs ss ns ms ps .lent) .table = ek (tableOf ss ns) (table-length n ss ns es en)
+      ∙ recorded-table s vs bs ss ns ms in (
         files-of (λ d. whyBlock d x) (putBlock x) s vs bs ss ns ms ps (set (set (tableOf ss ns) k b) (t .blocks) (block (t .base) (length x))) (d .0)
-            (table-yes (λ d. whyBlock d x) (putBlock x) s vs bs ss ns ms ps (set (set (tableOf ss ns) k b) (t .blocks) (block (t .base) (length x))) (is-accepted w (whyBlock (held s vs bs ss ns ms ps) x) e h)
+            (table-yes (λ d. whyBlock d x) (putBlock x) s vs bs ss ns ms ps (set (set (tableOf ss ns) k b) (t .blocks) (block (t .base) (length x)))
+            (is-accepted w (whyBlock (held s vs bs ss ns ms ps) x) e h)
             (λ i. set (first i) (et i .blocks) (block (et i .base) (length x)))),
         d .1,
       ))

@@ -48,29 +48,35 @@ module _ (ps : List ℕ) (hit : ℕ → Bool) where
     pub rest-empty : getD ps (q .place) 0 ≡ 0 → rest ps hit (quest 0 0 (Free (q .place))) ≡ rest ps hit q
     rest-empty e = sym (rest-end (quest 0 0 (Free (q .place))) refl) ∙ seek-empty ps hit (q .place) (q .left) h e ∙ rest-on q h
 
-    pub rest-hit : (getD ps (q .place) 0 ≡ 0 → ⊥) → hit (getD ps (q .place) 0 - 1) ≡ true → rest ps hit (quest 0 0 (Row (getD ps (q .place) 0 - 1))) ≡ rest ps hit q
+    pub rest-hit : (getD ps (q .place) 0 ≡ 0 → ⊥) → hit (getD ps (q .place) 0 - 1) ≡ true → rest ps hit (quest 0 0 (Row (getD ps (q .place) 0 - 1)))
+        ≡ rest ps hit q
     rest-hit n e = sym (rest-end (quest 0 0 (Row (getD ps (q .place) 0 - 1))) refl) ∙ seek-found ps hit (q .place) (q .left) h n e ∙ rest-on q h
 
-    pub rest-next : (p : ℕ) → p ≡ after (length ps) (q .place) → (getD ps (q .place) 0 ≡ 0 → ⊥) → hit (getD ps (q .place) 0 - 1) ≡ false → rest ps hit (quest p (q .left - 1) Full) ≡ rest ps hit q
+    pub rest-next : (p : ℕ) → p ≡ after (length ps) (q .place) → (getD ps (q .place) 0 ≡ 0 → ⊥) → hit (getD ps (q .place) 0 - 1) ≡ false
+        → rest ps hit (quest p (q .left - 1) Full) ≡ rest ps hit q
     rest-next p a n e = sym (rest-full p (q .left - 1)) ∙ sym (seek-on ps hit (q .place) p (q .left) a h n e) ∙ rest-on q h
 
   -- before the first place
-  pub begin-off : (s : State) (x : List ℕ) (t : Bool) → t ≡ merges (s .merging) (length x) → t ≡ false → rest ps hit (quest 0 0 Full) ≡ foundBy (s .merging) ps hit x
+  pub begin-off : (s : State) (x : List ℕ) (t : Bool) → t ≡ merges (s .merging) (length x) → t ≡ false → rest ps hit (quest 0 0 Full)
+      ≡ foundBy (s .merging) ps hit x
   unfolding foundBy
   begin-off s x t e h = sym (rest-end (quest 0 0 Full) refl) ∙ rw (← e, h)
 
-  pub begin-none : (s : State) (x : List ℕ) (t : Bool) → t ≡ merges (s .merging) (length x) → t ≡ true → length ps ≡ 0 → rest ps hit (quest 0 0 Full) ≡ foundBy (s .merging) ps hit x
+  pub begin-none : (s : State) (x : List ℕ) (t : Bool) → t ≡ merges (s .merging) (length x) → t ≡ true → length ps ≡ 0 → rest ps hit (quest 0 0 Full)
+      ≡ foundBy (s .merging) ps hit x
   unfolding foundBy search·from seek
   begin-none s x t e h z = sym (rest-end (quest 0 0 Full) refl) ∙ rw (← e, h, z)
 
-  pub begin-on : (s : State) (x : List ℕ) (t : Bool) (p : ℕ) → t ≡ merges (s .merging) (length x) → t ≡ true → p ≡ hashOf x % length ps → rest ps hit (quest p (length ps) Full) ≡ foundBy (s .merging) ps hit x
+  pub begin-on : (s : State) (x : List ℕ) (t : Bool) (p : ℕ) → t ≡ merges (s .merging) (length x) → t ≡ true → p ≡ hashOf x % length ps
+      → rest ps hit (quest p (length ps) Full) ≡ foundBy (s .merging) ps hit x
   unfolding foundBy search·from
   begin-on s x t p e h ep = sym (rest-full p (length ps)) ∙ rw (← e, h, ep)
 
 -- ---- the loop over the table of records
 
 module _ (s : State) (vs bs : List ℕ) (t : List Block) (ps x : List ℕ) where
-  pub going-first : (q : Quest) → ((hit : ℕ → Bool) → 12 < length x → rest ps hit q ≡ foundBy (s .merging) ps hit x) × (0 < q .left → q .place < length ps) → Going s vs bs t ps x q
+  pub going-first : (q : Quest) → ((hit : ℕ → Bool) → 12 < length x → rest ps hit q ≡ foundBy (s .merging) ps hit x)
+      × (0 < q .left → q .place < length ps) → Going s vs bs t ps x q
   going-first q h f = (h .0 (showsRow s (buffers vs bs t []) x) (f .3), h .1)
 
   pub going-last : (q : Quest) → Going s vs bs t ps x q → q .left ≡ 0 → Searched s vs bs t ps x (q .found)
@@ -84,7 +90,8 @@ Turned s vs bs ps x q b r =
     → (rest ps (showsRow s (bare vs bs ss ns) x) r ≡ rest ps (showsRow s (bare vs bs ss ns) x) q) × (0 < r .left → r .place < length ps)
 
 pub going-on : (s : State) (vs bs : List ℕ) (t : List Block) (ps x : List ℕ) (q r : Quest) (k : ℕ) (b : Block) → 0 < q .left
-    → (q .place < length ps → (getD ps (q .place) 0 ≡ 0 → ⊥) → 16 * (getD ps (q .place) 0 - 1) + 16 ≤ length vs → k ≡ blockOf (viewAt vs (getD ps (q .place) 0 - 1)))
+    → (q .place < length ps → (getD ps (q .place) 0 ≡ 0 → ⊥) → 16 * (getD ps (q .place) 0 - 1) + 16 ≤ length vs
+    → k ≡ blockOf (viewAt vs (getD ps (q .place) 0 - 1)))
     → b ≡ getD t k (block 0 0) → Turned s vs bs ps x q b r → Going s vs bs t ps x q → Going s vs bs t ps x r
 going-on s vs bs t ps x q r k b h ek eb turned =
     over (λ t. b ≡ getD t k (block 0 0) → Going s vs bs t ps x q → Going s vs bs t ps x r) (length t) (λ ss ns es en eb g f.

@@ -29,7 +29,8 @@ Sound f rows places = (isRow f ≡ true → rowOf f < rows) × ((p : ℕ) → f 
 -- f is what the merge table answers for x, where x is long and the state fits
 abbrev pub Searched : State → List ℕ → List ℕ → List Block → List ℕ → List ℕ → Found → Type 0
 Searched s vs bs t ps x f =
-    16 * s .rows ≤ length vs → allBlocks s ≤ length t → allBlocks s ≤ blockLimit → 12 < length x → f ≡ foundBy (s .merging) ps (showsRow s (buffers vs bs t []) x) x
+    16 * s .rows ≤ length vs → allBlocks s ≤ length t → allBlocks s ≤ blockLimit → 12 < length x
+    → f ≡ foundBy (s .merging) ps (showsRow s (buffers vs bs t []) x) x
 
 -- the state fits its views and blocks, and x is long
 abbrev pub Fine : State → List ℕ → List Block → List ℕ → Type 0
@@ -38,4 +39,5 @@ Fine s vs t x = (16 * s .rows ≤ length vs) × (allBlocks s ≤ length t) × (a
 -- a search that stands so will answer what the merge table answers for x, and its place is one of the table's
 abbrev pub Going : State → List ℕ → List ℕ → List Block → List ℕ → List ℕ → Quest → Type 0
 Going s vs bs t ps x q =
-    Fine s vs t x → (rest ps (showsRow s (buffers vs bs t []) x) q ≡ foundBy (s .merging) ps (showsRow s (buffers vs bs t []) x) x) × (0 < q .left → q .place < length ps)
+    Fine s vs t x → (rest ps (showsRow s (buffers vs bs t []) x) q ≡ foundBy (s .merging) ps (showsRow s (buffers vs bs t []) x) x)
+    × (0 < q .left → q .place < length ps)

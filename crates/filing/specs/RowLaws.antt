@@ -45,7 +45,8 @@ table-get (s ∷ ss) [] k e = absurd (omega (arith, e))
 table-get (s ∷ ss) (n ∷ ns) zero e = refl
 table-get (s ∷ ss) (n ∷ ns) (suc k) e = table-get ss ns k (omega (arith, e))
 
-pub sees-names : (vs : List ℕ) (r : ℕ) (b : Block) (ss ns : List ℕ) → length ss ≡ length ns → 16 * r + 16 ≤ length vs → Sees vs r b (tableOf ss ns) → Names vs r b ss ns
+pub sees-names : (vs : List ℕ) (r : ℕ) (b : Block) (ss ns : List ℕ) → length ss ≡ length ns → 16 * r + 16 ≤ length vs → Sees vs r b (tableOf ss ns)
+    → Names vs r b ss ns
 sees-names vs r b ss ns e h g k ek = g h ∙ ap (λ (j : ℕ). getD (tableOf ss ns) j (block 0 0)) (sym ek) ∙ table-get ss ns k e
 
 -- two slices that hold a record at its place
@@ -57,7 +58,8 @@ module _ (n k : ℕ) (b : Block) where
   aside-get a = sym (getD-set-same (blank (n + suc k)) k a 0 (omega (arith, blank-length (n + suc k))))
 
   pub aside-names : (vs : List ℕ) (r : ℕ) → k ≡ blockOf (viewAt vs r) → Names vs r b (aside (b .start)) (aside (b .len))
-  aside-names vs r e j f = (λ i. block (aside-get (b .start) i) (aside-get (b .len) i)) ∙ (λ i. block (getD (aside (b .start)) ((e ∙ sym f) i) 0) (getD (aside (b .len)) ((e ∙ sym f) i) 0))
+  aside-names vs r e j f = (λ i. block (aside-get (b .start) i) (aside-get (b .len) i)) ∙ (λ i. block (getD (aside (b .start)) ((e ∙ sym f) i) 0)
+      (getD (aside (b .len)) ((e ∙ sym f) i) 0))
 
   aside-length : (a : ℕ) → n ≤ length (aside a)
   aside-length a = omega (arith, length-set (blank (n + suc k)) k a, blank-length (n + suc k))
@@ -67,11 +69,13 @@ module _ (n k : ℕ) (b : Block) where
 
 module _ (s : State) (vs bs ms ps : List ℕ) (n r : ℕ) (b : Block) where
   pub why-fit : fitsBy s vs bs ms ps n ≡ false → (t : List Block) → n ≡ length t → Sees vs r b t → Refused Fit ≡ whyGet (filed s vs bs t ms ps) r
-  why-fit h t e g = over (λ t. Refused Fit ≡ whyGet (filed s vs bs t ms ps) r) n (λ ss ns es en. get-fit s vs bs ss ns ms ps r (sym (fits-by s vs bs ms ps n ss ns es en) ∙ h)) t e
+  why-fit h t e g = over (λ t. Refused Fit ≡ whyGet (filed s vs bs t ms ps) r) n (λ ss ns es en. get-fit s vs bs ss ns ms ps r
+      (sym (fits-by s vs bs ms ps n ss ns es en) ∙ h)) t e
 
   module _ (fit : fitsBy s vs bs ms ps n ≡ true) where
     pub why-late : s .rows ≤ r → (t : List Block) → n ≡ length t → Sees vs r b t → Refused Row ≡ whyGet (filed s vs bs t ms ps) r
-    why-late h t e g = over (λ t. Refused Row ≡ whyGet (filed s vs bs t ms ps) r) n (λ ss ns es en. get-late s vs bs ss ns ms ps r (sym (fits-by s vs bs ms ps n ss ns es en) ∙ fit) h) t e
+    why-late h t e g = over (λ t. Refused Row ≡ whyGet (filed s vs bs t ms ps) r) n (λ ss ns es en. get-late s vs bs ss ns ms ps r
+        (sym (fits-by s vs bs ms ps n ss ns es en) ∙ fit) h) t e
 
     module _ (there : r < s .rows) (y : Bool)
         (ey : (ss ns : List ℕ) → Ready s vs ss ns → Names vs r b ss ns → y ≡ reachable (recorded s (bare vs bs ss ns)) (allBlocks s) (viewAt vs r)) where
@@ -102,10 +106,19 @@ module _ (s : State) (vs bs ms ps : List ℕ) (n r : ℕ) (b : Block) where
           let room : allBlocks s ≤ n = omega (arith, f .starts, blank-length n) in
           let rd = aside-ready n k b s vs (f .views) room in
           let nm = aside-names n k b vs r refl in
-          record { starts = aside n k b (b .start); lens = aside n k b (b .len); ready = rd; names = nm; reach = sym (ey (aside n k b (b .start)) (aside n k b (b .len)) rd nm) ∙ h }
+          record {
+            starts = aside n k b (b .start);
+            lens = aside n k b (b .len);
+            ready = rd;
+            names = nm;
+            reach = sym (ey (aside n k b (b .start))
+                (aside n k b (b .len)) rd nm) ∙ h;
+          }
 
-      pub got-value : y ≡ true → (x : List ℕ) → ((ss ns : List ℕ) → Ready s vs ss ns → Names vs r b ss ns → reachable (recorded s (bare vs bs ss ns)) (allBlocks s) (viewAt vs r) ≡ true
-          → x ≡ shown (blocksOf (recorded s (bare vs bs ss ns)) (allBlocks s)) (viewAt vs r)) → (t : List Block) → n ≡ length t → Sees vs r b t → x ≡ getValue (filed s vs bs t ms ps) r
+      pub got-value : y ≡ true → (x : List ℕ) → ((ss ns : List ℕ) → Ready s vs ss ns → Names vs r b ss ns → reachable (recorded s (bare vs bs ss ns))
+          (allBlocks s) (viewAt vs r) ≡ true
+          → x ≡ shown (blocksOf (recorded s (bare vs bs ss ns)) (allBlocks s)) (viewAt vs r)) → (t : List Block) → n ≡ length t → Sees vs r b t
+          → x ≡ getValue (filed s vs bs t ms ps) r
       got-value h x ex t e g =
           over (λ t. Sees vs r b t → x ≡ getValue (filed s vs bs t ms ps) r) n (λ ss ns es en g.
           let a = at-hand ss ns es en g in
@@ -113,7 +126,8 @@ module _ (s : State) (vs bs ms ps : List ℕ) (n r : ℕ) (b : Block) where
           value-yes s vs bs ss ns ms ps r Accepted x (get-fine s vs bs ss ns ms ps r (a .0) there z) refl (ex ss ns (a .1) (a .2) z)) t e g
 
   -- refused, the value is empty
-  pub got-none : (w : Why) (x : List ℕ) → ((t : List Block) → n ≡ length t → Sees vs r b t → w ≡ whyGet (filed s vs bs t ms ps) r) → isAccepted w ≡ false → x ≡ []
+  pub got-none : (w : Why) (x : List ℕ) → ((t : List Block) → n ≡ length t → Sees vs r b t → w ≡ whyGet (filed s vs bs t ms ps) r) → isAccepted w
+      ≡ false → x ≡ []
       → (t : List Block) → n ≡ length t → Sees vs r b t → x ≡ getValue (filed s vs bs t ms ps) r
   unfolding getValue
   got-none w x f h p t e g = accepted-no (whyGet (filed s vs bs t ms ps) r) w _ [] x (f t e g) h p

@@ -90,7 +90,8 @@ pub unstarted-never : (t : Settings) (vs bs ss ns ms ps : List ℕ) → fitsStat
 unfolding fitsState fitsRooms fitsGrowth
 unstarted-never t vs bs ss ns ms ps =
     let b = held (unstarted t) vs bs ss ns ms ps in
-    sym (and-no (leb 0 (rowsRoom b)) _ (sym (and-no (leb (allBlocks (unstarted t)) (blockRoom (b .lent))) _ (sym (and-no (leb (used (unstarted t)) (dataRoom (b .lent))) false refl)))))
+    sym (and-no (leb 0 (rowsRoom b)) _ (sym (and-no (leb (allBlocks (unstarted t)) (blockRoom (b .lent))) _
+    (sym (and-no (leb (used (unstarted t)) (dataRoom (b .lent))) false refl)))))
 
 -- ---- the finishes
 
@@ -109,10 +110,14 @@ module _ (s : State) (vs bs ss ns ms ps : List ℕ) where
   pub does-refused : (put : Builder → Builder) (a : Answer) (c : Column) → fitsState here ≡ false → a ≡ answer (Refused Fit) s → c ≡ noColumn s
       → Does whyFinish put s vs bs ss ns ms ps a vs bs ss ns ms ps × (c ≡ finishColumn here)
   unfolding finishColumn
-  does-refused put a c h e d =
-      (subst (λ (z : Answer). Does whyFinish put s vs bs ss ns ms ps z vs bs ss ns ms ps) (sym e) (does-no whyFinish put s vs bs ss ns ms ps (Refused Fit) (finish-no h) refl), rw (← finish-no h) d)
+  does-refused put a c h e d = (
+    subst (λ (z : Answer). Does whyFinish put s vs bs ss ns ms ps z vs bs ss ns ms ps) (sym e) (does-no whyFinish put s vs bs ss ns ms ps
+        (Refused Fit) (finish-no h) refl),
+    rw (← finish-no h) d,
+  )
 
-  module _ (fit : fitsState here ≡ true) (hs : allBlocks s ≤ length ss) (hn : allBlocks s ≤ length ns) {ss′ ns′ : List ℕ} (es : ss′ ≡ openStarts s ss) (en : ns′ ≡ openLens s ns)
+  module _ (fit : fitsState here ≡ true) (hs : allBlocks s ≤ length ss) (hn : allBlocks s ≤ length ns) {ss′ ns′ : List ℕ} (es : ss′ ≡ openStarts s ss)
+      (en : ns′ ≡ openLens s ns)
       (c : Column) (ec : c ≡ columnOf here) where
     is-column : c ≡ finishColumn here
     unfolding finishColumn

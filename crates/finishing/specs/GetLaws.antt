@@ -61,7 +61,8 @@ module _ (s : State) (vs bs ss ns : List ℕ) (r : ℕ) (rd : Ready s vs ss ns) 
       pub row-past : allBlocks s ≤ k → false ≡ reached
       row-past p = by-reach NoBlock (reach-no-block there (allBlocks s) view (rw (← el) long) (rw (← ek) p))
 
-      module _ (start size : ℕ) (hk : k < allBlocks s) (es : start ≡ ifLt k (s .blocks) (getD ss k 0) (s .base)) (ez : size ≡ ifLt k (s .blocks) (getD ns k 0) (s .fill))
+      module _ (start size : ℕ) (hk : k < allBlocks s) (es : start ≡ ifLt k (s .blocks) (getD ss k 0) (s .base)) (ez : size ≡ ifLt k (s .blocks)
+          (getD ns k 0) (s .fill))
           (t : Bool) (e : t ≡ inData (buffers [] bs [] []) (block start size)) where
         at-start : start ≡ getD (openStarts s ss) k 0
         at-start = es ∙ start-at s ss k hk (rd .starts)
@@ -70,7 +71,8 @@ module _ (s : State) (vs bs ss ns : List ℕ) (r : ℕ) (rd : Ready s vs ss ns) 
         at-size = ez ∙ size-at s ns k hk (rd .lens)
 
         pub row-outside : t ≡ false → false ≡ reached
-        row-outside f = by-reach Outside (reach-no-data vs bs (openStarts s ss) (openLens s ns) [] (allBlocks s) view k ek (rw (← el) long) hk st ln (rw (← at-start, ← at-size) (sym e ∙ f)))
+        row-outside f = by-reach Outside (reach-no-data vs bs (openStarts s ss) (openLens s ns) [] (allBlocks s) view k ek (rw (← el) long) hk st ln
+            (rw (← at-start, ← at-size) (sym e ∙ f)))
 
         pub row-last : (o : ℕ) → t ≡ true → o ≡ offsetOf view → leb (o + len) size ≡ reached
         row-last o f eo = by (leb (o + len) size) refl
@@ -78,11 +80,13 @@ module _ (s : State) (vs bs ss ns : List ℕ) (r : ℕ) (rd : Ready s vs ss ns) 
             by : (b : Bool) → leb (o + len) size ≡ b → b ≡ reached
             by true d =
                 by-reach Inside
-                (reach-inside vs bs (openStarts s ss) (openLens s ns) [] (allBlocks s) view k ek (rw (← el) long) hk st ln (rw (← at-start, ← at-size) (sym e ∙ f))
+                (reach-inside vs bs (openStarts s ss) (openLens s ns) [] (allBlocks s) view k ek (rw (← el) long) hk st ln (rw (← at-start, ← at-size)
+                (sym e ∙ f))
                 (rw (← eo, ← el, ← at-size) (leb-true (o + len) size d)))
             by false d =
                 by-reach Outside
-                (reach-over vs bs (openStarts s ss) (openLens s ns) [] (allBlocks s) view k ek (rw (← el) long) hk st ln (rw (← at-start, ← at-size) (sym e ∙ f))
+                (reach-over vs bs (openStarts s ss) (openLens s ns) [] (allBlocks s) view k ek (rw (← el) long) hk st ln (rw (← at-start, ← at-size)
+                (sym e ∙ f))
                 (rw (← eo, ← el, ← at-size) (leb-false (o + len) size d)))
 
       -- a long value of a reachable view
@@ -122,7 +126,8 @@ module _ (s : State) (vs bs ss ns ms ps : List ℕ) (r : ℕ) where
   unfolding recorded reachable reachOf inData dataRoom
   whole = refl
 
-  pub get-bad : fitsState here ≡ true → r < s .rows → reachable (recorded s (bare vs bs ss ns)) (allBlocks s) (viewAt vs r) ≡ false → Refused (BadView r) ≡ whyGet here r
+  pub get-bad : fitsState here ≡ true → r < s .rows → reachable (recorded s (bare vs bs ss ns)) (allBlocks s) (viewAt vs r) ≡ false
+      → Refused (BadView r) ≡ whyGet here r
   unfolding whyGet refuse recorded
   get-bad h g f = rw (h, lt-leb (s .rows) r g, zero-add r, sym whole ∙ f)
 
@@ -149,7 +154,8 @@ module _ (s : State) (vs bs ss ns ms ps : List ℕ) (r : ℕ) where
   unfolding getValue
   value-no w x e h p = accepted-no (whyGet here r) w _ [] x e h p
 
-  pub value-yes : (w : Why) (x : List ℕ) → w ≡ whyGet here r → isAccepted w ≡ true → x ≡ shown (blocksOf (recorded s (bare vs bs ss ns)) (allBlocks s)) (viewAt vs r) → x ≡ getValue here r
+  pub value-yes : (w : Why) (x : List ℕ) → w ≡ whyGet here r → isAccepted w ≡ true
+      → x ≡ shown (blocksOf (recorded s (bare vs bs ss ns)) (allBlocks s)) (viewAt vs r) → x ≡ getValue here r
   unfolding getValue shownAt recorded blocksOf
   value-yes w x e h p = accepted-yes (whyGet here r) w _ [] x e h (p ∙ rw (zero-add r))
 
@@ -174,6 +180,7 @@ module _ (vs : List ℕ) (r len at : ℕ) (el : len ≡ lengthOf (viewAt vs r)) 
         long-place = λ z. q;
       }
 
-pub placed-is : (s : State) (ss v : List ℕ) (k o a : ℕ) → k ≡ blockOf v → o ≡ offsetOf v → a ≡ ifLt k (s .blocks) (getD ss k 0) (s .base) → a + o ≡ placed s ss v
+pub placed-is : (s : State) (ss v : List ℕ) (k o a : ℕ) → k ≡ blockOf v → o ≡ offsetOf v → a ≡ ifLt k (s .blocks) (getD ss k 0) (s .base)
+    → a + o ≡ placed s ss v
 unfolding placed
 placed-is s ss v k o a ek eo ea = rw (ea, ek, eo)

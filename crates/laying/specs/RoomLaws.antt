@@ -66,7 +66,8 @@ module _ (mapped : Bool) (rows blocks bytes : ℕ) (out : Lent) where
       refuse-no RowRoom (ltb (rowRoom mapped out) rows) sixth (Refused BlockRoom) (rows-no g)
       (refuse-yes BlockRoom (ltb (blockRoom out) blocks) (refuse DataRoom (ltb (dataRoom out) bytes) Accepted) (Refused BlockRoom) (blocks-yes g h) refl)
 
-  past-six : (w : Why) → fits out (anew mapped rows 0) ≡ true → fits out (anew mapped rows blocks) ≡ true → w ≡ refuse DataRoom (ltb (dataRoom out) bytes) Accepted → w ≡ whyRooms mapped rows blocks bytes out
+  past-six : (w : Why) → fits out (anew mapped rows 0) ≡ true → fits out (anew mapped rows blocks) ≡ true
+      → w ≡ refuse DataRoom (ltb (dataRoom out) bytes) Accepted → w ≡ whyRooms mapped rows blocks bytes out
   unfolding whyRooms
   past-six w g h e =
       refuse-no RowRoom (ltb (rowRoom mapped out) rows) sixth w (rows-no g)
@@ -83,10 +84,12 @@ module _ (mapped : Bool) (rows blocks bytes : ℕ) (out : Lent) where
   unfolding inData dataRoom
   data-yes h = let g = leb-false (0 + bytes) (dataRoom out) h in lt-ltb (dataRoom out) bytes (omega arith)
 
-  pub rooms-seven : fits out (anew mapped rows 0) ≡ true → fits out (anew mapped rows blocks) ≡ true → lies ≡ false → Refused DataRoom ≡ whyRooms mapped rows blocks bytes out
+  pub rooms-seven : fits out (anew mapped rows 0) ≡ true → fits out (anew mapped rows blocks) ≡ true → lies ≡ false → Refused DataRoom
+      ≡ whyRooms mapped rows blocks bytes out
   rooms-seven g h d = past-six (Refused DataRoom) g h (refuse-yes DataRoom (ltb (dataRoom out) bytes) Accepted (Refused DataRoom) (data-yes d) refl)
 
-  pub rooms-yes : fits out (anew mapped rows 0) ≡ true → fits out (anew mapped rows blocks) ≡ true → lies ≡ true → Accepted ≡ whyRooms mapped rows blocks bytes out
+  pub rooms-yes : fits out (anew mapped rows 0) ≡ true → fits out (anew mapped rows blocks) ≡ true → lies ≡ true → Accepted ≡ whyRooms mapped rows
+      blocks bytes out
   rooms-yes g h d = past-six Accepted g h (refuse-no DataRoom (ltb (dataRoom out) bytes) Accepted Accepted (data-no d) refl)
 
   pub rooms-give : isAccepted (whyRooms mapped rows blocks bytes out) ≡ true → Roomy (rowRoom mapped out) (blockRoom out) (dataRoom out) rows blocks bytes

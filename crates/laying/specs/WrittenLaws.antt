@@ -29,7 +29,15 @@ total-one n = add-zero n
 
 pub front-paste : (d xs y : List ℕ) (o : ℕ) → o ≡ length xs → paste (front d xs) o y (length y) ≡ front d (xs ++ y)
 front-paste d xs y o e =
-    rw (e, take-append-seam xs (drop (length xs) d), take-length y, drop-append-add xs (drop (length xs) d) (length y), drop-drop (length y) (length xs) d, length-append xs y)
+    rw (
+      e,
+      take-append-seam xs (drop (length xs) d),
+      take-length y,
+      drop-append-add xs (drop (length xs) d) (length y),
+      drop-drop (length y)
+          (length xs) d,
+      length-append xs y,
+    )
 
 pub front-set : (d xs : List ℕ) (o a : ℕ) → o ≡ length xs → length xs < length d → set (front d xs) o a ≡ front d (xs ++ a ∷ [])
 front-set d xs o a e h =
@@ -102,7 +110,8 @@ blocks-read d t xs vs ms =
     rw (take-at (records 0 (map length xs)) (drop (length (records 0 (map length xs))) t) (length xs) n) (records-read [] (drop (length (flat xs)) d) xs)
 
 -- each ends within all of them
-pub record-ends : (at : ℕ) (ns : List ℕ) (k : ℕ) → k < length ns → getD (records at ns) k (block 0 0) .start + getD (records at ns) k (block 0 0) .len ≤ at + total ns
+pub record-ends : (at : ℕ) (ns : List ℕ) (k : ℕ) → k < length ns → getD (records at ns) k (block 0 0) .start + getD (records at ns) k (block 0 0) .len
+    ≤ at + total ns
 unfolding startsFrom tableOf total
 record-ends at [] k h = absurd (not-suc-le-zero h)
 record-ends at (n ∷ ns) zero h = omega arith

@@ -44,7 +44,8 @@ digits-enough zero g n h k = absurd (omega arith)
 digits-enough (suc f) zero n h k = absurd (omega arith)
 digits-enough (suc f) (suc g) n h k = go (ltb n 10) refl (λ m. digits-enough f g (n / 10) (omega arith) (omega arith))
   where
-    go : (t : Bool) → ltb n 10 ≡ t → (10 ≤ n → digits f (n / 10) ≡ digits g (n / 10)) → pick t [] (digits f (n / 10)) ++ (48 + n % 10) ∷ [] ≡ pick t [] (digits g (n / 10)) ++ (48 + n % 10) ∷ []
+    go : (t : Bool) → ltb n 10 ≡ t → (10 ≤ n → digits f (n / 10) ≡ digits g (n / 10)) → pick t [] (digits f (n / 10)) ++ (48 + n % 10) ∷ []
+        ≡ pick t [] (digits g (n / 10)) ++ (48 + n % 10) ∷ []
     go true e later = refl
     go false e later = ap (λ (l : List ℕ). l ++ (48 + n % 10) ∷ []) (later (ltb-false n 10 e))
 
@@ -99,12 +100,15 @@ unfolding textFrom
 text-start x = refl
 
 -- a part that is put, and what is left
-pub rest-more : (x : List ℕ) (k : ℕ) {a b : List ℕ} {w r : ℕ} (all : List ℕ) → k < length x → take w a ++ textFrom x k ≡ all → Put a b w r (itemText k (getD x k 0)) → take r b ++ textFrom x (k + 1) ≡ all
+pub rest-more : (x : List ℕ) (k : ℕ) {a b : List ℕ} {w r : ℕ} (all : List ℕ) → k < length x → take w a ++ textFrom x k ≡ all
+    → Put a b w r (itemText k (getD x k 0)) → take r b ++ textFrom x (k + 1) ≡ all
 rest-more x k {a} {b} {w} {r} all h e p =
-    ap (λ (l : List ℕ). l ++ textFrom x (k + 1)) (p .text) ∙ (append-assoc (take w a) (itemText k (getD x k 0)) (textFrom x (k + 1)) ∙ (ap (λ (l : List ℕ). take w a ++ l) (sym (text-more x k h)) ∙ e))
+    ap (λ (l : List ℕ). l ++ textFrom x (k + 1)) (p .text) ∙ (append-assoc (take w a) (itemText k (getD x k 0)) (textFrom x (k + 1))
+    ∙ (ap (λ (l : List ℕ). take w a ++ l) (sym (text-more x k h)) ∙ e))
 
 -- the first bytes of a list, put one by one
-pub put-next : (s : List ℕ) (k : ℕ) {a b : List ℕ} {at : ℕ} → k < length s → Put a b at (at + k) (take k s) → at + k < length b → Put a (set b (at + k) (getD s k 0)) at (at + (k + 1)) (take (k + 1) s)
+pub put-next : (s : List ℕ) (k : ℕ) {a b : List ℕ} {at : ℕ} → k < length s → Put a b at (at + k) (take k s) → at + k < length b
+    → Put a (set b (at + k) (getD s k 0)) at (at + (k + 1)) (take (k + 1) s)
 put-next s k {a} {b} {at} h p g =
     let e : at + (k + 1) ≡ at + k + 1 = omega arith in
     rw (e, add-one k, take-suc s k 0 h) (put-put p (put-one b (at + k) (getD s k 0) g))

@@ -78,7 +78,8 @@ pub seek-ext : (t : List ℕ) (hit hit′ : ℕ → Bool) → ((p r : ℕ) → g
 unfolding seek
 seek-ext t hit hit′ h p zero = refl
 seek-ext t hit hit′ h p (suc k) =
-    ext-step hit hit′ p (getD t p 0) (seek t hit (after (length t) p) k) (seek t hit′ (after (length t) p) k) (h p) (seek-ext t hit hit′ h (after (length t) p) k)
+    ext-step hit hit′ p (getD t p 0) (seek t hit (after (length t) p) k) (seek t hit′ (after (length t) p) k) (h p)
+    (seek-ext t hit hit′ h (after (length t) p) k)
 
 -- entries before stay found
 old-step : (hit : ℕ → Bool) (p n m r : ℕ) (f g : Found) → (n ≢ 0 → m ≡ n) → (f ≡ Row r → g ≡ Row r) → onEntry hit p n f ≡ Row r → onEntry hit p m g ≡ Row r
@@ -162,12 +163,14 @@ pub never-full : (t : List ℕ) (hit : ℕ → Bool) (h : ℕ) → filled t < le
 unfolding search·from
 never-full t hit h l e =
     let m : h % length t < length t = mod-lt h (omega arith) in
-    let w : ((i : ℕ) → h % length t ≤ i → i < length t → i < h % length t + length t → getD t i 0 ≢ 0) × ((i : ℕ) → i + length t < h % length t + length t → getD t i 0 ≢ 0) =
+    let w : ((i : ℕ) → h % length t ≤ i → i < length t → i < h % length t + length t → getD t i 0 ≢ 0)
+    × ((i : ℕ) → i + length t < h % length t + length t → getD t i 0 ≢ 0) =
     full-seen t hit (h % length t) (length t) m (omega arith) e in
     let z : filled t ≡ length t = all-filled t (λ i a. pick t w i a (leb (h % length t) i) refl) in
     omega arith
   where
-    pick : (t : List ℕ) → (((i : ℕ) → h % length t ≤ i → i < length t → i < h % length t + length t → getD t i 0 ≢ 0) × ((i : ℕ) → i + length t < h % length t + length t → getD t i 0 ≢ 0))
+    pick : (t : List ℕ) → (((i : ℕ) → h % length t ≤ i → i < length t → i < h % length t + length t → getD t i 0 ≢ 0)
+        × ((i : ℕ) → i + length t < h % length t + length t → getD t i 0 ≢ 0))
         → (i : ℕ) → i < length t → (b : Bool) → leb (h % length t) i ≡ b → getD t i 0 ≢ 0
     pick t w i a true q = w .0 i (leb-true (h % length t) i q) a (omega (arith, leb-true (h % length t) i q))
     pick t w i a false q = w .1 i (omega (arith, leb-false (h % length t) i q))

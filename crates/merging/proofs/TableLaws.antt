@@ -111,7 +111,13 @@ module _ (h : List ℕ → ℕ) (mg : ℕ → Bool) (val : ℕ → List ℕ) (t 
       → Holds h mg val′ (set t q (suc rows)) (memo ++ rows ∷ []) (suc rows)
   unfolding search·from
   entered x val′ hit q agree m keep new l e =
-      record { named = named′; placed = placed′; apart = apart′; sparse = rw (filled-set t q rows (free .1) (free .0)) (omega (arith, g .sparse)); inside = inside′ }
+      record {
+        named = named′;
+        placed = placed′;
+        apart = apart′;
+        sparse = rw (filled-set t q rows (free .1) (free .0)) (omega (arith, g .sparse));
+        inside = inside′;
+      }
     where
       free : (getD t q 0 ≡ 0) × (q < length t)
       free = seek-free t hit (h x % length t) (length t) q (mod-lt (h x) l) e

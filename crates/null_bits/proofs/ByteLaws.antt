@@ -61,7 +61,8 @@ put-first map i a x h =
     rw (byte, at, digit-bit x 0, div-one x)
 
 -- n bits in one byte
-in-byte : (map : List ℕ) (i a x n : ℕ) → a + suc n ≤ 8 → i < length map → putBits map (8 * i + a) (digit x) (suc n) ≡ set map i (filled (getD map i 0) a x (suc n))
+in-byte : (map : List ℕ) (i a x n : ℕ) → a + suc n ≤ 8 → i < length map → putBits map (8 * i + a) (digit x) (suc n)
+    ≡ set map i (filled (getD map i 0) a x (suc n))
 unfolding putBits
 in-byte map i a x zero h g = put-first map i a x (omega arith)
 in-byte map i a x (suc n) h g =
@@ -137,7 +138,8 @@ pub read-split : (map : List ℕ) (row j : ℕ) → getD map (row / 8) 0 < 256 �
     → digit ((getD map (row / 8) 0 + 256 * getD map (row / 8 + 1) 0) / 2 ^ (row % 8) % 256) j ≡ isValid map (row + j)
 unfolding digit isValid bitAt
 read-split map row j hl h =
-    let e : both / 2 ^ (row % 8) / 2 ^ j % 2 ≡ getD map ((row + j) / 8) 0 / 2 ^ ((row + j) % 8) % 2 = rw (shr-shr both (row % 8) j) (by (ltb (row % 8 + j) 8) refl) in
+    let e : both / 2 ^ (row % 8) / 2 ^ j % 2 ≡ getD map ((row + j) / 8) 0 / 2 ^ ((row + j) % 8) % 2 = rw (shr-shr both (row % 8) j)
+    (by (ltb (row % 8 + j) 8) refl) in
     ap (λ (n : ℕ). eqb n 1) (low-bit (both / 2 ^ (row % 8)) j h ∙ e)
   where
     both : ℕ
@@ -182,7 +184,8 @@ pub run-rest : (m map out : List ℕ) (first k n : ℕ) (bits more : ℕ → Boo
     → ((j : ℕ) → more j ≡ bits (k + j)) → out ≡ putBits m first bits n
 run-rest m map out first k n bits more h em eo same =
     let e : k + (n - k) ≡ n = omega arith in
-    eo ∙ bits-same map (first + k) more (λ j. bits (k + j)) (n - k) (λ j l. same j) ∙ rw em (sym (bits-add m first bits k (n - k)) ∙ ap (putBits m first bits) e)
+    eo ∙ bits-same map (first + k) more (λ j. bits (k + j)) (n - k) (λ j l. same j) ∙ rw em (sym (bits-add m first bits k (n - k))
+    ∙ ap (putBits m first bits) e)
 
 -- the first byte's bits as the code joins them, and that they fit a byte
 pub joined : (old x pos p : ℕ) → pos + p ≡ 8 → pos < 8 → p < 8

@@ -74,7 +74,15 @@ pub count-word : (map : List ℕ) (i n : ℕ) → Bytes map → countValid map (
 unfolding wordAt ones countValid
 count-word map i zero hb = refl
 count-word map i (suc n) hb =
-    rw (mul-suc 8 n, count-add map (8 * i) (8 * n) 8, ← (mul-add 8 i n), count-byte map (i + n) (hb (i + n)), count-word map i n hb, ones-cat (8 * n) (getD map (i + n) 0) (wordAt map i n) (word-lt map i n hb))
+    rw (
+      mul-suc 8 n,
+      count-add map (8 * i) (8 * n) 8,
+      ← (mul-add 8 i n),
+      count-byte map (i + n) (hb (i + n)),
+      count-word map i n hb,
+      ones-cat (8 * n)
+          (getD map (i + n) 0) (wordAt map i n) (word-lt map i n hb),
+    )
     (add-comm (ones (wordAt map i n)) (ones (getD map (i + n) 0)))
 
 -- the mask of k low bits in a u32
@@ -88,11 +96,13 @@ pub part-le : (x k : ℕ) → ones (x % 2 ^ k) ≤ k
 part-le x k = ones-le k (x % 2 ^ k) (mod-lt x (pow-pos k))
 
 -- one byte more, and one word more
-pub count-more-byte : (map : List ℕ) (i k : ℕ) → getD map (i + k) 0 < 2 ^ 8 → countValid map (8 * i) (8 * k) + ones (getD map (i + k) 0) ≡ countValid map (8 * i) (8 * (k + 1))
+pub count-more-byte : (map : List ℕ) (i k : ℕ) → getD map (i + k) 0 < 2 ^ 8 → countValid map (8 * i) (8 * k) + ones (getD map (i + k) 0)
+    ≡ countValid map (8 * i) (8 * (k + 1))
 count-more-byte map i k h =
     rw (mul-add 8 k 1, count-add map (8 * i) (8 * k) 8, ← (mul-add 8 i k), count-byte map (i + k) h)
 
-pub count-more-word : (map : List ℕ) (i k : ℕ) → Bytes map → countValid map (8 * i) (64 * k) + ones (wordAt map (i + 8 * k) 8) ≡ countValid map (8 * i) (64 * (k + 1))
+pub count-more-word : (map : List ℕ) (i k : ℕ) → Bytes map → countValid map (8 * i) (64 * k) + ones (wordAt map (i + 8 * k) 8)
+    ≡ countValid map (8 * i) (64 * (k + 1))
 count-more-word map i k hb =
     let at : 8 * i + 64 * k ≡ 8 * (i + 8 * k) = omega arith in
     rw (mul-add 64 k 1, count-add map (8 * i) (64 * k) 64, at, count-word map (i + 8 * k) 8 hb)
@@ -110,7 +120,8 @@ pub count-three : (map : List ℕ) (f₀ f₁ f₂ p q r first rows : ℕ) → f
 count-three map f₀ f₁ f₂ p q r first rows e₀ e₁ e₂ e =
     rw (e₀, e₁, e₂, ← e, count-add map first (p + q) r, count-add map first p q)
 
-pub count-four : (map : List ℕ) (f₀ f₁ f₂ f₃ p q r s first rows : ℕ) → f₀ ≡ first → f₁ ≡ first + p → f₂ ≡ first + (p + q) → f₃ ≡ first + (p + q + r) → p + q + r + s ≡ rows
+pub count-four : (map : List ℕ) (f₀ f₁ f₂ f₃ p q r s first rows : ℕ) → f₀ ≡ first → f₁ ≡ first + p → f₂ ≡ first + (p + q) → f₃ ≡ first + (p + q + r)
+    → p + q + r + s ≡ rows
     → countValid map f₀ p + countValid map f₁ q + countValid map f₂ r + countValid map f₃ s ≡ countValid map first rows
 count-four map f₀ f₁ f₂ f₃ p q r s first rows e₀ e₁ e₂ e₃ e =
     rw (e₀, e₁, e₂, e₃, ← e, count-add map first (p + q + r) s, count-add map first (p + q) r, count-add map first p q)

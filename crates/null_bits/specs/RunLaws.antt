@@ -20,7 +20,8 @@ length-bits map first bits zero = refl
 length-bits map first bits (suc n) = length-put (putBits map first bits n) (first + n) (bits n) ∙ length-bits map first bits n
 
 -- a run in two parts
-pub bits-add : (map : List ℕ) (first : ℕ) (bits : ℕ → Bool) (m n : ℕ) → putBits map first bits (m + n) ≡ putBits (putBits map first bits m) (first + m) (λ k. bits (m + k)) n
+pub bits-add : (map : List ℕ) (first : ℕ) (bits : ℕ → Bool) (m n : ℕ) → putBits map first bits (m + n) ≡ putBits (putBits map first bits m)
+    (first + m) (λ k. bits (m + k)) n
 unfolding putBits
 bits-add map first bits m zero = rw add-zero
 bits-add map first bits m (suc n) = rw (add-suc, bits-add map first bits m n, add-assoc first m n)
@@ -52,11 +53,13 @@ module _ (map : List ℕ) (first : ℕ) (bits : ℕ → Bool) where
       ∙ bits-read n k (omega arith) (omega arith))
 
 -- a column's bits are its map's, or all valid
-pub column-map : (map : List ℕ) (first : ℕ) (src : List ℕ) (mapped : Bool) (from n : ℕ) → mapped ≡ true → copyBits map first src from n ≡ copyColumn map first src mapped from n
+pub column-map : (map : List ℕ) (first : ℕ) (src : List ℕ) (mapped : Bool) (from n : ℕ) → mapped ≡ true → copyBits map first src from n
+    ≡ copyColumn map first src mapped from n
 unfolding validAt
 column-map map first src mapped from n e = bits-same map first (λ k. isValid src (from + k)) (λ k. validAt src mapped (from + k)) n (λ k l. rw e)
 
-pub column-none : (map : List ℕ) (first : ℕ) (src : List ℕ) (mapped : Bool) (from n : ℕ) → mapped ≡ false → putRun map first n true ≡ copyColumn map first src mapped from n
+pub column-none : (map : List ℕ) (first : ℕ) (src : List ℕ) (mapped : Bool) (from n : ℕ) → mapped ≡ false → putRun map first n true
+    ≡ copyColumn map first src mapped from n
 unfolding validAt
 column-none map first src mapped from n e = bits-same map first (λ k. true) (λ k. validAt src mapped (from + k)) n (λ k l. rw e)
 
@@ -65,7 +68,8 @@ pub column-read : (map : List ℕ) (first : ℕ) (src : List ℕ) (mapped : Bool
     → isValid (copyColumn map first src mapped from n) (first + k) ≡ validAt src mapped (from + k)
 column-read map first src mapped from n k h l = bits-read map first (λ j. validAt src mapped (from + j)) n k h l
 
-pub nulls-bits : (map : List ℕ) (first : ℕ) (src : List ℕ) (mapped : Bool) (from n : ℕ) → ((k : ℕ) → k < n → isValid map (first + k) ≡ validAt src mapped (from + k))
+pub nulls-bits : (map : List ℕ) (first : ℕ) (src : List ℕ) (mapped : Bool) (from n : ℕ) → ((k : ℕ) → k < n → isValid map (first + k)
+    ≡ validAt src mapped (from + k))
     → countNulls map true first n ≡ countNulls src mapped from n
 unfolding countNulls
 nulls-bits map first src mapped from zero same = refl
@@ -76,10 +80,12 @@ nulls-bits map first src mapped from (suc n) same =
 -- an end theorem: nothing cites it
 pub nulls-copied : (map : List ℕ) (first : ℕ) (src : List ℕ) (mapped : Bool) (from n : ℕ) → first + n ≤ 8 * length map
     → countNulls (copyColumn map first src mapped from n) true first n ≡ countNulls src mapped from n
-nulls-copied map first src mapped from n h = nulls-bits (copyColumn map first src mapped from n) first src mapped from n (λ k l. column-read map first src mapped from n k h l)
+nulls-copied map first src mapped from n h = nulls-bits (copyColumn map first src mapped from n) first src mapped from n (λ k l. column-read map first
+    src mapped from n k h l)
 
 -- a row appended counts as null or not, and the rows before it as before (an end theorem: nothing cites it)
-pub nulls-append : (map : List ℕ) (row : ℕ) (v : Bool) → row / 8 < length map → countNulls (putBit map row v) true 0 (suc row) ≡ countNulls map true 0 row + nullOf v
+pub nulls-append : (map : List ℕ) (row : ℕ) (v : Bool) → row / 8 < length map → countNulls (putBit map row v) true 0 (suc row) ≡ countNulls map true 0
+    row + nullOf v
 unfolding countNulls
 nulls-append map row v h =
     let now : validAt (putBit map row v) true (0 + row) ≡ v = rw zero-add (valid-map (putBit map row v) row ∙ valid-put-same map row v h) in

@@ -63,7 +63,8 @@ module _ (w : ℕ) (os bs : List ℕ) (j : ℕ) (h : CutIn w os (length bs) j) w
           let p = h .rise in
           let q = h .last in
           rw (make-long (cutAt w os bs j) 0 (offsetAt w os j) k)
-          (long-row (bs ∷ []) (cutAt w os bs j) 0 (offsetAt w os j) k (record { len = omega arith; block = omega arith; offset = omega arith }) (omega arith) cut-part)
+          (long-row (bs ∷ []) (cutAt w os bs j) 0 (offsetAt w os j) k (record { len = omega arith; block = omega arith; offset = omega arith })
+          (omega arith) cut-part)
 
 none-of-kind : (k : Kind) → ofKind k [] ≡ true
 unfolding wellFormed firstBad badAfter
@@ -83,7 +84,8 @@ module _ (w : ℕ) (s : Source) (k : Kind) (out : Lent) (g : Given w s k out) wh
   unfolding rowViewOf valueIn
   new-row j h = by (validRow w s j)
     where
-      by : (t : Bool) → Row (s .bytes ∷ []) (pick t (makeView (cutAt w (s .offsets) (s .bytes) j) 0 (offsetAt w (s .offsets) j)) zeroView) (pick t (cutAt w (s .offsets) (s .bytes) j) [])
+      by : (t : Bool) → Row (s .bytes ∷ []) (pick t (makeView (cutAt w (s .offsets) (s .bytes) j) 0 (offsetAt w (s .offsets) j)) zeroView)
+          (pick t (cutAt w (s .offsets) (s .bytes) j) [])
       by true = let m = rooms true out in cut-row w (s .offsets) (s .bytes) j (g .cut j h) (omega (arith, g .rooms .byte, m .most, byte-limit-small))
       by false = rw zero-view (short-row (s .bytes ∷ []) [] (omega arith))
 
@@ -99,7 +101,8 @@ module _ (w : ℕ) (s : Source) (k : Kind) (out : Lent) (g : Given w s k out) wh
   unfolding viewsOf fromOffsets
   views-back =
       let m = rooms true out in
-      rows-same (λ i. viewAt (putRows (out .views) (rowViewOf w s) (rowsIn w s)) (0 + i)) (viewAt (putRows (out .views) (rowViewOf w s) (rowsIn w s))) (rowsIn w s) (λ i h. rw (zero-add i))
+      rows-same (λ i. viewAt (putRows (out .views) (rowViewOf w s) (rowsIn w s)) (0 + i)) (viewAt (putRows (out .views) (rowViewOf w s) (rowsIn w s)))
+      (rowsIn w s) (λ i h. rw (zero-add i))
       ∙ views-read (out .views) (rowViewOf w s) (rowsIn w s) (λ r h. new-row r h .size) (omega (arith, g .rooms .row))
 
   blocks-back : blocksOf made 1 ≡ s .bytes ∷ []
@@ -113,7 +116,8 @@ module _ (w : ℕ) (s : Source) (k : Kind) (out : Lent) (g : Given w s k out) wh
       by : (t : Bool) → anyNull (s .nulls) (s .mapped) (rowsIn w s) ≡ t
           → rowsOf (λ i. bits.validAt (putBits (out .nulls) 0 (validRow w s) (rowsIn w s)) t (0 + i)) (rowsIn w s) ≡ rowsOf (validRow w s) (rowsIn w s)
       by true e = bits-anew (out .nulls) (validRow w s) (rowsIn w s) (omega (arith, g .rooms .row, rooms true out .nulls refl))
-      by false e = rows-same (λ i. bits.validAt (putBits (out .nulls) 0 (validRow w s) (rowsIn w s)) false (0 + i)) (validRow w s) (rowsIn w s) (λ i h. sym (null-none (s .nulls) (s .mapped) (rowsIn w s) e i h))
+      by false e = rows-same (λ i. bits.validAt (putBits (out .nulls) 0 (validRow w s) (rowsIn w s)) false (0 + i)) (validRow w s) (rowsIn w s)
+          (λ i h. sym (null-none (s .nulls) (s .mapped) (rowsIn w s) e i h))
 
   length-views : length (made .views) ≡ length (out .views)
   unfolding fromOffsets

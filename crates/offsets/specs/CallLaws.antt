@@ -120,7 +120,8 @@ pub record Places (rows size : ℕ) (vs bs ss ns ms : List ℕ) : Type 0 where
   pub few : rows < 16777216
   pub small : size < 2 ^ 32
 
-pub places : (w : ℕ) (s : Source) (k : Kind) (vs bs ss ns ms : List ℕ) → Given w s k (lent vs bs ss ns ms) → Places (rowsIn w s) (length (s .bytes)) vs bs ss ns ms
+pub places : (w : ℕ) (s : Source) (k : Kind) (vs bs ss ns ms : List ℕ) → Given w s k (lent vs bs ss ns ms) → Places (rowsIn w s) (length (s .bytes))
+    vs bs ss ns ms
 places w s k vs bs ss ns ms g =
     let m = rooms true (lent vs bs ss ns ms) in
     let r = g .rooms in
@@ -174,7 +175,8 @@ module _ (w : ℕ) (s : Source) (k : Kind) (vs bs ss ns ms : List ℕ) (y : Why)
       pub write-in : SourceIn w s rows × (viewSize * rows ≤ length vs) × (length (s .bytes) < 2 ^ 32) × (rows < 2 ^ 59)
       write-in = let p = roomed in (lawful-in, omega arith, omega arith, omega arith)
 
-      pub converted : (b : Bool) (vs′ bs′ ms′ : List ℕ) → b ≡ anyNull (s .nulls) (s .mapped) rows → vs′ ≡ putRows vs (rowViewOf w s) rows → bs′ ≡ front bs (s .bytes) → ms′ ≡ copyColumn ms 0 (s .nulls) (s .mapped) 0 rows
+      pub converted : (b : Bool) (vs′ bs′ ms′ : List ℕ) → b ≡ anyNull (s .nulls) (s .mapped) rows → vs′ ≡ putRows vs (rowViewOf w s) rows
+          → bs′ ≡ front bs (s .bytes) → ms′ ≡ copyColumn ms 0 (s .nulls) (s .mapped) 0 rows
           → Converted w s k vs bs ss ns ms (record { why = y; column = record { first = 0; rows = rows; blocks = 1; kind = k; mapped = b } })
           vs′ bs′ (set ss 0 0) (set ns 0 (length (s .bytes))) ms′
       unfolding offsetsOf fromOffsets
@@ -185,6 +187,7 @@ module _ (w : ℕ) (s : Source) (k : Kind) (vs bs ss ns ms : List ℕ) (y : Why)
             views = accepted-yes verdict y (putRows vs (rowViewOf w s) (rowsIn w s)) vs vs′ g h (rw e at q);
             bytes = accepted-yes verdict y (front bs (s .bytes)) bs bs′ g h d;
             starts = accepted-yes verdict y (front ss (0 ∷ [])) ss (set ss 0 0) g h (front-one ss 0 (roomed .starts));
-            lens = accepted-yes verdict y (front ns (length (s .bytes) ∷ [])) ns (set ns 0 (length (s .bytes))) g h (front-one ns (length (s .bytes)) (roomed .lens));
+            lens = accepted-yes verdict y (front ns (length (s .bytes) ∷ [])) ns (set ns 0 (length (s .bytes))) g h (front-one ns (length (s .bytes))
+                (roomed .lens));
             nulls = accepted-yes verdict y (fromOffsets w s dest .nulls) ms ms′ g h (rw e at (r ∙ bits-from ms (s .nulls) (s .mapped) rows));
           }

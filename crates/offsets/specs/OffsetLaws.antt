@@ -124,9 +124,11 @@ module _ (w : ℕ) (os : List ℕ) where
   pub lawful-is : (n : ℕ) → lawful w os (suc n) ≡ rising w os n && ltb (offsetAt w os n) (half w)
   unfolding lawful lawfulAt rising
   lawful-is zero = refl
-  lawful-is (suc n) = rw (lawful-is n, rise-suc n) (by (rising w os n) (leb (offsetAt w os n) (offsetAt w os (suc n))) (ltb (offsetAt w os (suc n)) (half w)) refl refl)
+  lawful-is (suc n) = rw (lawful-is n, rise-suc n) (by (rising w os n) (leb (offsetAt w os n) (offsetAt w os (suc n))) (ltb (offsetAt w os (suc n))
+      (half w)) refl refl)
     where
-      low : (v : Bool) → offsetAt w os n ≤ offsetAt w os (suc n) → ltb (offsetAt w os (suc n)) (half w) ≡ true → ltb (offsetAt w os n) (half w) && (true && true) ≡ true
+      low : (v : Bool) → offsetAt w os n ≤ offsetAt w os (suc n) → ltb (offsetAt w os (suc n)) (half w) ≡ true → ltb (offsetAt w os n) (half w)
+          && (true && true) ≡ true
       low v h f = let g = ltb-true (offsetAt w os (suc n)) (half w) f in rw (lt-ltb (offsetAt w os n) (half w) (omega arith))
 
       none : (a : Bool) → a && false ≡ false

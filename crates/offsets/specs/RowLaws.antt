@@ -27,15 +27,18 @@ module _ (w : ℕ) (os bs ms : List ℕ) (mapped : Bool) (j : ℕ) where
   unfolding kindAt
   kind-null k e = rw e
 
-  pub kind-valid : (k : Kind) (x : List ℕ) (b : Bool) → validAt ms mapped j ≡ true → x ≡ cutAt w os bs j → b ≡ ofKind k x → b ≡ kindAt w (source os bs ms mapped) k j
+  pub kind-valid : (k : Kind) (x : List ℕ) (b : Bool) → validAt ms mapped j ≡ true → x ≡ cutAt w os bs j → b ≡ ofKind k x
+      → b ≡ kindAt w (source os bs ms mapped) k j
   unfolding kindAt
   kind-valid k x b e p q = rw (e, ← p) q
 
-  pub view-null : (d d′ : List ℕ) → validAt ms mapped j ≡ false → d′ ≡ paste d (viewSize * j) zeroView viewSize → d′ ≡ paste d (viewSize * j) (rowViewOf w (source os bs ms mapped) j) viewSize
+  pub view-null : (d d′ : List ℕ) → validAt ms mapped j ≡ false → d′ ≡ paste d (viewSize * j) zeroView viewSize
+      → d′ ≡ paste d (viewSize * j) (rowViewOf w (source os bs ms mapped) j) viewSize
   unfolding rowViewOf
   view-null d d′ e p = rw e p
 
-  pub view-valid : (d d′ x : List ℕ) (a : ℕ) → validAt ms mapped j ≡ true → x ≡ cutAt w os bs j → a ≡ offsetAt w os j → d′ ≡ paste d (viewSize * j) (makeView x 0 a) viewSize
+  pub view-valid : (d d′ x : List ℕ) (a : ℕ) → validAt ms mapped j ≡ true → x ≡ cutAt w os bs j → a ≡ offsetAt w os j
+      → d′ ≡ paste d (viewSize * j) (makeView x 0 a) viewSize
       → d′ ≡ paste d (viewSize * j) (rowViewOf w (source os bs ms mapped) j) viewSize
   unfolding rowViewOf
   view-valid d d′ x a e p q r = rw (e, ← p, ← q) r

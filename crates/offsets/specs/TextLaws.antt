@@ -18,7 +18,8 @@ pub binary-all : (k : Kind) (x : List ℕ) → isText k ≡ false → ofKind k x
 binary-all Binary x e = refl
 binary-all Text x e = absurd (true≢false e)
 
-pub text-row : (w : ℕ) (os bs : List ℕ) (k : Kind) (j : ℕ) → wellFormed bs ≡ true → CutIn w os (length bs) j → Begins bs (offsetAt w os j) → Begins bs (offsetAt w os (j + 1)) → ofKind k (cutAt w os bs j) ≡ true
+pub text-row : (w : ℕ) (os bs : List ℕ) (k : Kind) (j : ℕ) → wellFormed bs ≡ true → CutIn w os (length bs) j → Begins bs (offsetAt w os j)
+    → Begins bs (offsetAt w os (j + 1)) → ofKind k (cutAt w os bs j) ≡ true
 unfolding cutAt
 text-row w os bs Binary j f c p q = refl
 text-row w os bs Text j f c p q = formed-part bs (offsetAt w os j) (offsetAt w os (j + 1)) f (c .rise) p q

@@ -180,7 +180,8 @@ none-left : (v w : List ℕ) (n : ℕ) → length v ≡ n → length w ≡ n →
 unfolding cmp
 none-left v w n hv hw = rw (drop-of-length-le v {i = n} (omega arith), drop-of-length-le w {i = n} (omega arith))
 
-module _ (v w : List ℕ) (bv : Bytes v) (bw : Bytes w) (hv : length v ≡ 16) (hw : length w ≡ 16) (x y : ℕ) (ex : x ≡ beAt v 4 8) (ey : y ≡ beAt w 4 8) (o : Ordering) where
+module _ (v w : List ℕ) (bv : Bytes v) (bw : Bytes w) (hv : length v ≡ 16) (hw : length w ≡ 16) (x y : ℕ) (ex : x ≡ beAt v 4 8) (ey : y ≡ beAt w 4 8)
+    (o : Ordering) where
   first : cmp (drop 4 v) (drop 4 w) ≡ thenby (compare x y) (cmp (drop 12 v) (drop 12 w))
   first = rw (ex, ey) (cmp-word v w 4 8 bv bw (omega arith) (omega arith))
 
@@ -200,7 +201,8 @@ module _ (v w : List ℕ) (bv : Bytes v) (bw : Bytes w) (hv : length v ≡ 16) (
     twelve-equal e = rw (both, compare-eq p q e)
 
 -- n bytes of each as one number
-pub part-order : (a b : List ℕ) (i n : ℕ) → Bytes a → Bytes b → i + n ≤ length a → i + n ≤ length b → compare (beAt a i n) (beAt b i n) ≡ cmp (take n (drop i a)) (take n (drop i b))
+pub part-order : (a b : List ℕ) (i n : ℕ) → Bytes a → Bytes b → i + n ≤ length a → i + n ≤ length b → compare (beAt a i n) (beAt b i n)
+    ≡ cmp (take n (drop i a)) (take n (drop i b))
 part-order a b i n ba bb ha hb =
     let p : List ℕ = take n (drop i a) in
     let q : List ℕ = take n (drop i b) in
@@ -208,5 +210,6 @@ part-order a b i n ba bb ha hb =
     let lq : length q ≡ n = length-take-le n (drop i b) (simp length-drop (omega arith)) in
     let ep : beAt p 0 n ≡ beAt a i n = rw (add-zero i) at (be-part a i n 0 n (omega arith)) in
     let eq : beAt q 0 n ≡ beAt b i n = rw (add-zero i) at (be-part b i n 0 n (omega arith)) in
-    let whole : cmp p q ≡ thenby (compare (beAt p 0 n) (beAt q 0 n)) (cmp (drop (0 + n) p) (drop (0 + n) q)) = cmp-word p q 0 n (bytes-part a i n ba) (bytes-part b i n bb) (omega arith) (omega arith) in
+    let whole : cmp p q ≡ thenby (compare (beAt p 0 n) (beAt q 0 n)) (cmp (drop (0 + n) p) (drop (0 + n) q)) = cmp-word p q 0 n (bytes-part a i n ba)
+    (bytes-part b i n bb) (omega arith) (omega arith) in
     sym (whole ∙ rw (zero-add n, none-left p q n lp lq, ep, eq) (still (compare (beAt a i n) (beAt b i n))))

@@ -17,6 +17,7 @@ pub record Apart (s : Source) (k : Kind) (vs bs : List ℕ) (t : List Block) (ms
   pub nulls : ms′ ≡ ifAccepted (whyOffsets 4 s k (buffers vs bs t ms)) (fromOffsets 4 s (buffers vs bs t ms) .nulls) ms
 
 -- the whole call
-pub record Tabled (s : Source) (k : Kind) (vs bs : List ℕ) (t : List Block) (ms : List ℕ) (r : Outcome) (vs′ bs′ : List ℕ) (t′ : List Block) (ms′ : List ℕ) : Type 0 where
+pub record Tabled (s : Source) (k : Kind) (vs bs : List ℕ) (t : List Block) (ms : List ℕ) (r : Outcome) (vs′ bs′ : List ℕ) (t′ : List Block)
+    (ms′ : List ℕ) : Type 0 where
   pub apart : Apart s k vs bs t ms r vs′ bs′ ms′
   pub table : t′ ≡ ifAccepted (whyOffsets 4 s k (buffers vs bs t ms)) (fromOffsets 4 s (buffers vs bs t ms) .table) t

@@ -63,7 +63,8 @@ module _ (s : Source) (k : Kind) (vs bs ms : List ℕ) where
       record { apart = p′; table = refused-why (whyOffsets 4 s k (buffers vs bs [] ms)) none-why _ [] }
   tabled (b ∷ t) count n at r vs′ bs′ ms′ e f p q =
       let n1 : n ≡ 1 = f ∙ ap (λ (x : Bool). pick {A = ℕ} x 0 1) (ne-eqb count 0 (λ z. absurd (omega arith))) in
-      let p′ : Apart s k vs bs (block 0 0 ∷ []) ms r vs′ bs′ ms′ = subst (λ (m : ℕ). Apart s k vs bs (tableOf (take m (0 ∷ [])) (take m (0 ∷ []))) ms r vs′ bs′ ms′) n1 p in
+      let p′ : Apart s k vs bs (block 0 0 ∷ []) ms r vs′ bs′ ms′ = subst (λ (m : ℕ). Apart s k vs bs (tableOf (take m (0 ∷ [])) (take m (0 ∷ []))) ms
+      r vs′ bs′ ms′) n1 p in
       let w : whyOffsets 4 s k (buffers vs bs (block 0 0 ∷ []) ms) ≡ whyOffsets 4 s k (buffers vs bs (b ∷ t) ms) = why-same (block 0 0) b [] t in
       let y : r .why ≡ whyOffsets 4 s k (buffers vs bs (b ∷ t) ms) = ap (λ (o : Outcome). o .why) (p′ .answer) ∙ w in
       record {

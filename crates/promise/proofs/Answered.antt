@@ -42,7 +42,8 @@ module _ (t : Settings) (ps : List ℕ) (r : Answer) (ps′ : List ℕ) (h : Sli
   pub start-held : held·in h ≡ start t (lent·as (column·in h)) ps
   unfolding start startState startPlaces
   start-held =
-      let state : h .state ≡ started t = m .state ∙ ap (λ (a : Answer). a .state) (m .answers) ∙ ap (λ (y : Why). ifAccepted y (started t) (unstarted t)) start-why in
+      let state : h .state ≡ started t = m .state ∙ ap (λ (a : Answer). a .state) (m .answers)
+      ∙ ap (λ (y : Why). ifAccepted y (started t) (unstarted t)) start-why in
       let places : h .places ≡ cleared (t .merging) ps = m .places ∙ m .cleared ∙ ap (λ (y : Why). ifAccepted y (cleared (t .merging) ps) ps) start-why in
       λ i. builder (state i) (lent·as (column·in h)) (places i)
 
@@ -66,11 +67,13 @@ module _ (most : ℕ) (b : Buffers) (c : Column) (o : Buffers) (r : compaction.O
 
   compact-lent : compacted most (lent·as b) c (lent·as o) ≡ lent·as o′
   compact-lent =
-      sym (wrote-lent most (lent·as b) c (o .views) (o .bytes) (o .starts) (o .lens) (o .nulls) r (o′ .views) (o′ .bytes) (o′ .starts) (o′ .lens) (o′ .nulls) (m .wrote) (ap isAccepted compact-why))
+      sym (wrote-lent most (lent·as b) c (o .views) (o .bytes) (o .starts) (o .lens) (o .nulls) r (o′ .views) (o′ .bytes) (o′ .starts) (o′ .lens)
+      (o′ .nulls) (m .wrote) (ap isAccepted compact-why))
 
   compact-column : compactColumn most (lent·as b) c ≡ r .column
   unfolding compactOf
-  compact-column = sym (ap (λ (a : compaction.Outcome). a .column) (m .wrote .answer) ∙ ap (λ (y : Why). ifAccepted y (compactColumn most (lent·as b) c) c) compact-why)
+  compact-column = sym (ap (λ (a : compaction.Outcome). a .column) (m .wrote .answer)
+      ∙ ap (λ (y : Why). ifAccepted y (compactColumn most (lent·as b) c) c) compact-why)
 
 module _ (s : Source) (k : Kind) (o : Buffers) (r : offsets.Outcome) (o′ : Buffers) (m : Convert·met s k o r o′) where
   convert-why : whyOffsets 4 s k (lent·as o) ≡ Accepted
@@ -79,11 +82,13 @@ module _ (s : Source) (k : Kind) (o : Buffers) (r : offsets.Outcome) (o′ : Buf
 
   convert-lent : fromOffsets 4 s (lent·as o) ≡ lent·as o′
   convert-lent =
-      sym (converted-lent 4 s k (o .views) (o .bytes) (o .starts) (o .lens) (o .nulls) r (o′ .views) (o′ .bytes) (o′ .starts) (o′ .lens) (o′ .nulls) (m .converted) (ap isAccepted convert-why))
+      sym (converted-lent 4 s k (o .views) (o .bytes) (o .starts) (o .lens) (o .nulls) r (o′ .views) (o′ .bytes) (o′ .starts) (o′ .lens) (o′ .nulls)
+      (m .converted) (ap isAccepted convert-why))
 
   convert-column : offsetColumn 4 s k ≡ r .column
   unfolding offsetsOf
-  convert-column = sym (ap (λ (a : offsets.Outcome). a .column) (m .converted .answer) ∙ ap (λ (y : Why). ifAccepted y (offsetColumn 4 s k) (noOffsets 4 s k)) convert-why)
+  convert-column = sym (ap (λ (a : offsets.Outcome). a .column) (m .converted .answer)
+      ∙ ap (λ (y : Why). ifAccepted y (offsetColumn 4 s k) (noOffsets 4 s k)) convert-why)
 
 -- a family over buffers and a column, along two equations
 carried : (P : Lent → Column → Type 0) {l m : Lent} {c d : Column} → l ≡ m → c ≡ d → P l c → P m d
@@ -95,9 +100,11 @@ continued =
       made = λ xs most b c o r o′ d m.
           carried (Made xs) (compact-lent most b c o r o′ m) (compact-column most b c o r o′ m) (again most (lent·as o) d (compact-why most b c o r o′ m));
       filed = λ xs most b c o r o′ d m.
-          carried (Filed xs) (compact-lent most b c o r o′ m) (compact-column most b c o r o′ m) (files.again most (lent·as o) d (compact-why most b c o r o′ m));
+          carried (Filed xs) (compact-lent most b c o r o′ m) (compact-column most b c o r o′ m) (files.again most (lent·as o) d
+          (compact-why most b c o r o′ m));
       offsets = λ s k o r o′ m.
-          carried (Filed (cellsOf s)) (convert-lent s k o r o′ m) (convert-column s k o r o′ m) (files.converted s k (lent·as o) (convert-why s k o r o′ m) refl);
+          carried (Filed (cellsOf s)) (convert-lent s k o r o′ m) (convert-column s k o r o′ m) (files.converted s k (lent·as o)
+          (convert-why s k o r o′ m) refl);
     }
 
 made : (xs : List Item) {b : Buffers} {c : Column} → Answered xs b c → Made xs (lent·as b) c
@@ -115,6 +122,7 @@ kept-by-contracts xs =
       shows = λ d. promised xs .shows (made xs d);
       compares = λ d e. promised xs .compares (made xs d) (made xs e);
       bounds = λ most o r o′ {b} {c} d m.
-          carried (λ (l : Lent). λ (e : Column). Bounded most l e) (compact-lent most b c o r o′ m) (compact-column most b c o r o′ m) (compacted-bounded most (lent·as b) c (lent·as o) (compact-why most b c o r o′ m));
+          carried (λ (l : Lent). λ (e : Column). Bounded most l e) (compact-lent most b c o r o′ m) (compact-column most b c o r o′ m)
+          (compacted-bounded most (lent·as b) c (lent·as o) (compact-why most b c o r o′ m));
       checks = λ d. kept .shows _ (filed xs (made xs d)) .checks;
     }

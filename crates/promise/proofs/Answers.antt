@@ -36,7 +36,8 @@ compare-rows : {bs : List (List ℕ)} {v x : List ℕ} {cs : List (List ℕ)} {w
 unfolding compareViews
 compare-rows s t = rows-compare s t
 
-module _ {l : Lent} {c : Column} {xs : List (List ℕ)} {bs : List Bool} {m : Lent} {d : Column} {ys : List (List ℕ)} {cs : List Bool} (s : Shows l c xs bs) (t : Shows m d ys cs) where
+module _ {l : Lent} {c : Column} {xs : List (List ℕ)} {bs : List Bool} {m : Lent} {d : Column} {ys : List (List ℕ)} {cs : List Bool}
+    (s : Shows l c xs bs) (t : Shows m d ys cs) where
   pub compare-shows : (i j : ℕ) → i < c .rows → j < d .rows → compareRows l c i m d j ≡ compared.Is (orderOf (cmp (getD xs i []) (getD ys j [])))
   unfolding compareRows whyCompare bothOf
   compare-shows i j p q = rw (why-shows s i p, why-shows t j q, compare-rows (shows-row s i p) (shows-row t j q))

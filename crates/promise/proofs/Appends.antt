@@ -101,11 +101,13 @@ same-kind n b = ap (λ (c : Builder). c .state .kind) (room-is n b) ∙ by (fits
     by false = grown-kind n b
 
 -- a long value stored
-pub inv-long : {m : ℕ} (b : Builder) (xs : List Cell) (x : List ℕ) → Inv m b xs → ofKind (b .state .kind) x ≡ true → shortMost < length x → b .state .rows < rowsRoom b
+pub inv-long : {m : ℕ} (b : Builder) (xs : List Cell) (x : List ℕ) → Inv m b xs → ofKind (b .state .kind) x ≡ true → shortMost < length x
+    → b .state .rows < rowsRoom b
     → Takes b (length x) → Inv m (store x (makeRoom (length x) b)) (xs ++ cell x true ∷ [])
 inv-long b xs x i o long h w =
     let r = roomy (length x) b (i .fits) w in
-    inv-store (makeRoom (length x) b) xs x (inv-roomy (length x) b xs i) long (r .block) (r .bytes) (rw (same-kind (length x) b) o) (omega (arith, r .rows, r .rowsRoom))
+    inv-store (makeRoom (length x) b) xs x (inv-roomy (length x) b xs i) long (r .block) (r .bytes) (rw (same-kind (length x) b) o)
+    (omega (arith, r .rows, r .rowsRoom))
 
 -- ---- a row that merging finds
 
@@ -125,7 +127,8 @@ module _ {m : ℕ} (b : Builder) (xs : List Cell) (x : List ℕ) (i : Inv m b xs
   inv-laid f long w = inv-long (enter f b) xs x (inv-enter f b xs i) o long (rw (rooms-enter f b) h) w
 
   inv-found : (f : Found) → found b x ≡ f → shortMost < length x
-      → pick (isRow f) Accepted (whyLay (b .state) (blockRoom (b .lent)) (dataRoom (b .lent)) (length x)) ≡ Accepted → Inv m (putFound f x b) (xs ++ cell x true ∷ [])
+      → pick (isRow f) Accepted (whyLay (b .state) (blockRoom (b .lent)) (dataRoom (b .lent)) (length x)) ≡ Accepted
+      → Inv m (putFound f x b) (xs ++ cell x true ∷ [])
   unfolding putFound
   inv-found (Row r) e long w = inv-row b xs (viewAt (b .lent .views) r) (cell x true) i (hit-row b xs i x r (found-hits b x r e) .1) o h
   inv-found (Free p) e long w = inv-laid (Free p) long w
@@ -158,7 +161,8 @@ kind-added zero v b = refl
 kind-added (suc n) v b = kind-added n v b
 
 -- n copies of a row, over the same blocks
-pub inv-copies : {m : ℕ} (n : ℕ) (b : Builder) (xs : List Cell) (v x : List ℕ) → Inv m b xs → row.Row (blocksNow b) v x → ofKind (b .state .kind) x ≡ true → b .state .rows + n ≤ m
+pub inv-copies : {m : ℕ} (n : ℕ) (b : Builder) (xs : List Cell) (v x : List ℕ) → Inv m b xs → row.Row (blocksNow b) v x → ofKind (b .state .kind) x
+    ≡ true → b .state .rows + n ≤ m
     → Inv m (addRows n v true b) (xs ++ replicate n (cell x true)) × (blocksNow (addRows n v true b) ≡ blocksNow b)
 unfolding addRows
 inv-copies {m} zero b xs v x i r o h = (subst (λ (ys : List Cell). Inv m b ys) (sym (append-nil xs)) i, refl)
@@ -166,13 +170,15 @@ inv-copies {m} (suc n) b xs v x i r o h =
     let before = inv-copies n b xs v x i r o (omega arith) in
     let c : Builder = addRows n v true b in
     let one : Inv m (addRow v true c) ((xs ++ replicate n (cell x true)) ++ cell x true ∷ []) =
-    inv-row c (xs ++ replicate n (cell x true)) v (cell x true) (before .0) (rw (before .1) r) (rw (kind-added n v b) o) (omega (arith, rows-added n v b, before .0 .room)) in
+    inv-row c (xs ++ replicate n (cell x true)) v (cell x true) (before .0) (rw (before .1) r) (rw (kind-added n v b) o)
+    (omega (arith, rows-added n v b, before .0 .room)) in
     let list : (xs ++ replicate n (cell x true)) ++ cell x true ∷ [] ≡ xs ++ replicate (suc n) (cell x true) =
     append-assoc xs (replicate n (cell x true)) (cell x true ∷ []) ∙ ap (λ (ys : List Cell). xs ++ ys) (sym (replicate-snoc n (cell x true))) in
     (subst (λ (ys : List Cell). Inv m (addRow v true c) ys) list one, now-row v true c ∙ before .1)
 
 -- the last row shows the last cell
-last-row : {m : ℕ} (b : Builder) (xs : List Cell) (x : List ℕ) (n : ℕ) → n ≡ length xs → Inv m b (xs ++ cell x true ∷ []) → row.Row (blocksNow b) (viewAt (b .lent .views) n) x
+last-row : {m : ℕ} (b : Builder) (xs : List Cell) (x : List ℕ) (n : ℕ) → n ≡ length xs → Inv m b (xs ++ cell x true ∷ [])
+    → row.Row (blocksNow b) (viewAt (b .lent .views) n) x
 last-row b xs x n e i =
     let k : b .state .rows ≡ length xs + 1 = rows-are b (xs ++ cell x true ∷ []) i ∙ length-append xs (cell x true ∷ []) in
     let shows : getD (map bytesIn (xs ++ cell x true ∷ [])) n [] ≡ x =
@@ -207,12 +213,14 @@ unfolding putValue putFound store lay addRow
 put-kind x b = by (isShort (length x)) (isRow (found b x))
   where
     by : (t u : Bool)
-        → pick t (addRow (shortView x) true b) (pick u (addRow (viewAt (b .lent .views) (rowOf (found b x))) true b) (store x (makeRoom (length x) (enter (found b x) b)))) .state .kind ≡ b .state .kind
+        → pick t (addRow (shortView x) true b) (pick u (addRow (viewAt (b .lent .views) (rowOf (found b x))) true b)
+        (store x (makeRoom (length x) (enter (found b x) b)))) .state .kind ≡ b .state .kind
     by true u = refl
     by false true = refl
     by false false = same-kind (length x) (enter (found b x) b)
 
-pub inv-values : {m : ℕ} (n : ℕ) (b : Builder) (xs : List Cell) (x : List ℕ) → Inv m b xs → whyValues n b x ≡ Accepted → Inv m (putValues n x b) (xs ++ replicate n (cell x true))
+pub inv-values : {m : ℕ} (n : ℕ) (b : Builder) (xs : List Cell) (x : List ℕ) → Inv m b xs → whyValues n b x ≡ Accepted
+    → Inv m (putValues n x b) (xs ++ replicate n (cell x true))
 inv-values {m} zero b xs x i w = rw (put-zero x b, append-nil xs) i
 inv-values {m} (suc n) b xs x i w =
     let p : Valued n b x = valued n b x w in
@@ -223,7 +231,8 @@ inv-values {m} (suc n) b xs x i w =
     let all =
     inv-copies n (putValue x b) (xs ++ cell x true ∷ []) v x one (last-row (putValue x b) xs x (b .state .rows) e one) (rw (put-kind x b) (p .kind))
     (omega (arith, i .room, p .room)) in
-    rw (put-suc n x b) (subst (λ (ys : List Cell). Inv m (addRows n v true (putValue x b)) ys) (append-assoc xs (cell x true ∷ []) (replicate n (cell x true))) (all .0))
+    rw (put-suc n x b) (subst (λ (ys : List Cell). Inv m (addRows n v true (putValue x b)) ys) (append-assoc xs (cell x true ∷ [])
+    (replicate n (cell x true))) (all .0))
 
 -- nothing is of every kind
 empty-kind : (k : Kind) → ofKind k [] ≡ true

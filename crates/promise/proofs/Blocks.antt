@@ -48,7 +48,9 @@ unfolding blocksNow recorded allBlocks
 now-are b room = by (isOpen (b .state)) room
   where
     by : (t : Bool) → pick t (suc (b .state .blocks)) (b .state .blocks) ≤ length (b .lent .table)
-        → blocksOf (buffers (b .lent .views) (b .lent .bytes) (pick t (set (b .lent .table) (b .state .blocks) (block (b .state .base) (b .state .fill))) (b .lent .table)) (b .lent .nulls)) (pick t (suc (b .state .blocks)) (b .state .blocks))
+        → blocksOf (buffers (b .lent .views) (b .lent .bytes)
+        (pick t (set (b .lent .table) (b .state .blocks) (block (b .state .base) (b .state .fill))) (b .lent .table)) (b .lent .nulls))
+        (pick t (suc (b .state .blocks)) (b .state .blocks))
         ≡ doneOf b ++ opened t (openOf b)
     by true h = blocks-set (b .lent) (b .state .blocks) (block (b .state .base) (b .state .fill)) (b .lent .views) (b .lent .nulls) h
     by false h = sym (append-nil (doneOf b))
@@ -95,7 +97,8 @@ below-complete b room below = by (isOpen (b .state)) room
     by true h k j =
         by-cases (ℕ-discrete k n)
         (λ e. let same : getD (set t n new) k (block 0 0) ≡ new = rw e (getD-set-same t n new (block 0 0) h) in rw same (omega arith))
-        (λ e. let other : getD (set t n new) k (block 0 0) ≡ getD t k (block 0 0) = getD-set-other t n k new (block 0 0) e in rw other (omega (arith, below k (omega arith))))
+        (λ e. let other : getD (set t n new) k (block 0 0) ≡ getD t k (block 0 0) = getD-set-other t n k new (block 0 0) e in
+        rw other (omega (arith, below k (omega arith))))
     by false h k j = omega (arith, below k j)
 
 pub all-lay : (x : List ℕ) (b : Builder) → 0 < length x → allBlocks (lay x b .state) ≡ suc (b .state .blocks)
@@ -112,7 +115,8 @@ module _ (x : List ℕ) (b : Builder) (some : 0 < length x) (below : Below b) (r
   -- the completed blocks stay
   pub done-lay : doneOf (lay x b) ≡ doneOf b
   unfolding lay
-  done-lay = blocks-paste (b .lent) (b .state .blocks) (used (b .state)) x (b .lent .views) (b .lent .nulls) (omega arith) (λ k j. omega (arith, below k j)) fits
+  done-lay = blocks-paste (b .lent) (b .state .blocks) (used (b .state)) x (b .lent .views) (b .lent .nulls) (omega arith)
+      (λ k j. omega (arith, below k j)) fits
 
   pub now-lay : blocksNow (lay x b) ≡ doneOf b ++ (openOf b ++ x) ∷ []
   unfolding lay

@@ -53,7 +53,8 @@ unfolding putValue putFound
 long-value x b = by (isShort (length x)) (isRow (found b x))
   where
     by : (t u : Bool)
-        → Long b (pick t (addRow (shortView x) true b) (pick u (addRow (viewAt (b .lent .views) (rowOf (found b x))) true b) (store x (makeRoom (length x) (enter (found b x) b)))))
+        → Long b (pick t (addRow (shortView x) true b) (pick u (addRow (viewAt (b .lent .views) (rowOf (found b x))) true b)
+        (store x (makeRoom (length x) (enter (found b x) b)))))
     by true u = long-row (shortView x) true b
     by false true = long-row (viewAt (b .lent .views) (rowOf (found b x))) true b
     by false false = long-store x (enter (found b x) b)
@@ -86,7 +87,8 @@ long-put (add·values n x) b = long-values n x b
 long-put add·null b = long-row _ false b
 long-put (add·block x) b = long-block x (complete b) ∙ long-complete b
 long-put (add·view k offset n) b = long-row _ true b
-long-put (add·column l c) b = long-column (c .rows) (allBlocks (b .state)) l c (layBlocks (c .blocks) (blockBytes l) (complete b)) ∙ long-blocks (c .blocks) (blockBytes l) (complete b) ∙ long-complete b
+long-put (add·column l c) b = long-column (c .rows) (allBlocks (b .state)) l c (layBlocks (c .blocks) (blockBytes l) (complete b))
+    ∙ long-blocks (c .blocks) (blockBytes l) (complete b) ∙ long-complete b
 long-put finish·copy b = length-recorded (b .state) (b .lent)
 long-put finish b = length-recorded (b .state) (b .lent)
 
@@ -101,7 +103,8 @@ table-back (b ∷ t) [] ns e = absurd (omega arith)
 table-back (b ∷ t) (s ∷ ss) [] e = absurd (omega arith)
 table-back (b ∷ t) (s ∷ ss) (n ∷ ns) e = ap (λ (r : List Block). b ∷ r) (table-back t ss ns (omega arith))
 
-same-builder : (e : Builder) {s : State} {vs bs : List ℕ} {t : List Block} {ms ps : List ℕ} → s ≡ e .state → vs ≡ e .lent .views → bs ≡ e .lent .bytes → t ≡ e .lent .table
+same-builder : (e : Builder) {s : State} {vs bs : List ℕ} {t : List Block} {ms ps : List ℕ} → s ≡ e .state → vs ≡ e .lent .views → bs ≡ e .lent .bytes
+    → t ≡ e .lent .table
     → ms ≡ e .lent .nulls → ps ≡ e .places → builder s (buffers vs bs t ms) ps ≡ e
 same-builder e p q r u v w = λ i. builder (p i) (buffers (q i) (r i) (u i) (v i)) (w i)
 
@@ -135,7 +138,8 @@ module _ (c : Call) (h : Slices) (r : Answer) (h′ : Slices) (m : Call·met c h
 
 runs : {cs : List Call} {h e : Slices} → Coded cs h e → Ran cs (held·in h) (held·in e)
 runs none = calls.none
-runs {e = e} (more {c = c} {cs} {h} {h′} r m rest) = calls.more (met-why c h r h′ m) (subst (λ (b : Builder). Ran cs b (held·in e)) (met-put c h r h′ m) (runs rest))
+runs {e = e} (more {c = c} {cs} {h} {h′} r m rest) = calls.more (met-why c h r h′ m) (subst (λ (b : Builder). Ran cs b (held·in e))
+    (met-put c h r h′ m) (runs rest))
 
 pub coded : Codes
 coded = record { runs = λ cs h e d. runs d }

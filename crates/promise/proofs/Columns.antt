@@ -156,7 +156,13 @@ unfolding allInData sizes rowsOf flat
 sizes-are l zero e = refl
 sizes-are l (suc n) e =
     let p = both (allInData l n) (inData l (blockAt l n)) e in
-    rw (flat-snoc (rowsOf (blockBytes l) n) (blockBytes l n), length-append, sizes-are l n (p .0), block-length (l .bytes) (blockAt l n) (in-data-gives l (blockAt l n .start) (blockAt l n .len) (p .1) .1))
+    rw (
+      flat-snoc (rowsOf (blockBytes l) n) (blockBytes l n),
+      length-append,
+      sizes-are l n (p .0),
+      block-length (l .bytes) (blockAt l n)
+          (in-data-gives l (blockAt l n .start) (blockAt l n .len) (p .1) .1),
+    )
 
 row-kind : (v : List ℕ) (t : Bool) (b : Builder) → addRow v t b .state .kind ≡ b .state .kind
 unfolding addRow
@@ -185,10 +191,16 @@ module _ {m : ℕ} (b : Builder) (xs : List Cell) (l : Lent) (c : Column) (i : I
 
   ours-count : length (blocksNow b) ≡ allBlocks (b .state)
   unfolding blocksNow
-  ours-count = length-blocks (recorded (b .state) (b .lent)) (allBlocks (b .state)) (omega (arith, length-recorded (b .state) (b .lent), i .fits .blocks, block-table (b .lent)))
+  ours-count = length-blocks (recorded (b .state) (b .lent)) (allBlocks (b .state)) (omega (
+    arith,
+    length-recorded (b .state) (b .lent),
+    i .fits .blocks,
+    block-table (b .lent),
+  ))
 
   theirs-are : rowsOf (blockBytes l) (c .blocks) ≡ theirs
-  theirs-are = subst (λ (n : ℕ). rowsOf (blockBytes l) n ≡ theirs) theirs-count (rows-list (blockBytes l) theirs [] (λ k h. sym (blocks-at l (c .blocks) k (omega (arith, theirs-count)))))
+  theirs-are = subst (λ (n : ℕ). rowsOf (blockBytes l) n ≡ theirs) theirs-count (rows-list (blockBytes l) theirs []
+      (λ k h. sym (blocks-at l (c .blocks) k (omega (arith, theirs-count)))))
 
   theirs-size : length (flat theirs) ≡ sizes l (c .blocks)
   theirs-size = subst (λ (zs : List (List ℕ)). length (flat zs) ≡ sizes l (c .blocks)) theirs-are (sizes-are l (c .blocks) (j .inside))
@@ -221,7 +233,8 @@ module _ {m : ℕ} (b : Builder) (xs : List Cell) (l : Lent) (c : Column) (i : I
   base-is : base ≡ wholes theirs (complete b)
   base-is =
       subst (λ (zs : List (List ℕ)). base ≡ wholes zs (complete b)) theirs-are
-      (lay-wholes (c .blocks) (blockBytes l) (complete b) (base-room (rowsOf (blockBytes l) (c .blocks)) (ap (λ (zs : List (List ℕ)). length (flat zs)) theirs-are)))
+      (lay-wholes (c .blocks) (blockBytes l) (complete b) (base-room (rowsOf (blockBytes l) (c .blocks))
+      (ap (λ (zs : List (List ℕ)). length (flat zs)) theirs-are)))
 
   base-kind : base .state .kind ≡ b .state .kind
   unfolding wholes complete closed
@@ -235,7 +248,8 @@ module _ {m : ℕ} (b : Builder) (xs : List Cell) (l : Lent) (c : Column) (i : I
   unfolding addColumn rowsOf
   joins zero h =
       record {
-        inv = subst (λ (ys : List Cell). Inv m base ys) (sym (append-nil xs)) (subst (λ (e : Builder). Inv m e xs) (sym base-is) (inv-whole b xs theirs i block-room byte-room));
+        inv = subst (λ (ys : List Cell). Inv m base ys) (sym (append-nil xs)) (subst (λ (e : Builder). Inv m e xs) (sym base-is)
+            (inv-whole b xs theirs i block-room byte-room));
         now = ap blocksNow base-is ∙ now-whole b xs theirs i block-room byte-room;
         kind = base-kind;
         rows = omega (arith, base-rows);

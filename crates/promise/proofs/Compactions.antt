@@ -70,7 +70,8 @@ valid-shows l c v =
 
 -- ---- columns that show the same answer the same
 
-pub shows-alike : (l : Lent) (c : Column) (m : Lent) (d : Column) {xs : List (List ℕ)} {bs : List Bool} → d .rows ≡ c .rows → Shows l c xs bs → Shows m d xs bs → Alike l c m d
+pub shows-alike : (l : Lent) (c : Column) (m : Lent) (d : Column) {xs : List (List ℕ)} {bs : List Bool} → d .rows ≡ c .rows → Shows l c xs bs
+    → Shows m d xs bs → Alike l c m d
 shows-alike l c m d e s t =
     record {
       rows = e;
@@ -104,7 +105,8 @@ module _ (most : ℕ) (l : Lent) (c : Column) (out : Lent) where
   unfolding whyCompact refuse
   judges v h =
       let p = valid l c v in
-      rw (le-ltb mostCompaction most h, p .fitted) (sym (lowest-none (trueAt (c .kind) l c) (c .rows) (whyRooms (c .mapped) (c .rows) (length (newLens most l c)) (total (longLens l c (c .rows))) out) (p .truth)))
+      rw (le-ltb mostCompaction most h, p .fitted) (sym (lowest-none (trueAt (c .kind) l c) (c .rows) (whyRooms (c .mapped) (c .rows)
+      (length (newLens most l c)) (total (longLens l c (c .rows))) out) (p .truth)))
 
   module _ (a : whyCompact most l c out ≡ Accepted) where
     shows : whyInvalid l c ≡ Accepted → Alike l c (compacted most l c out) (compactColumn most l c)
@@ -127,7 +129,8 @@ module _ (most : ℕ) (l : Lent) (c : Column) (out : Lent) where
 
     used : totalBufferBytesUsed l c ≡ number.Is (total (lensIn (compacted most l c out) (compactColumn most l c .blocks)))
     unfolding totalBufferBytesUsed whyColumn refuse
-    used = rw (room most l c out a .fitted) (ap number.Is (buffer-total l c (c .rows) ∙ sym (lens-total most (longLens l c (c .rows))) ∙ ap total (sym new-lens)))
+    used = rw (room most l c out a .fitted) (ap number.Is (buffer-total l c (c .rows) ∙ sym (lens-total most (longLens l c (c .rows)))
+        ∙ ap total (sym new-lens)))
 
 pub compactions : Compactions
 compactions =

@@ -29,9 +29,13 @@ use Rattle.laying.specs.Written.{putRows, startsFrom, total}
 unfoldable pub computed : ℕ
 unfolding rowLimit blockLimit byteLimit mostCompaction refuse wordAt enc pad bitAt isValid countNulls putBit putBits cmp same within fits led ledBy front
     badAfter firstBad wellFormed lengthOf bodyOf prefixOf blockOf offsetOf shortView longView makeView viewAt startSize largestSize nextSize sizeAfter
-    reachedIn fitsSize fitsGrowth lent.rowRoom lent.blockRoom lent.dataRoom lent.fits lent.inData lent.tableOf blocksOf shown shownAt validAt spotOf reachOf reachable
-    zeros honest isTrue lowest rowsOf viewsOf bitsOf flat putViews putTable reading.whyColumn reading.whyRun reading.whyValue reading.valueAt reading.prefixOf reading.suffixOf
-    reading.prefixAt reading.suffixAt reading.nullRun reading.bytesLen reading.totalBytesLen compareViews bothOf whyCompare compareRows rowsRoom allBlocks fitsRooms fitsState recorded blocksNow closed complete fitsOpen
-    sized roomed makeRoom lay addRow addRows whyStart cleared start whyGet getValue hits foundBy found blockFor whyLay whyStore whyRow whyValues store putFound putValue putValues whyFinish finished putRows total startsFrom roomFor cutFrom
+    reachedIn fitsSize fitsGrowth lent.rowRoom lent.blockRoom lent.dataRoom lent.fits lent.inData lent.tableOf blocksOf shown shownAt validAt spotOf
+    reachOf reachable
+    zeros honest isTrue lowest rowsOf viewsOf bitsOf flat putViews putTable reading.whyColumn reading.whyRun reading.whyValue reading.valueAt
+    reading.prefixOf reading.suffixOf
+    reading.prefixAt reading.suffixAt reading.nullRun reading.bytesLen reading.totalBytesLen compareViews bothOf whyCompare compareRows rowsRoom
+    allBlocks fitsRooms fitsState recorded blocksNow closed complete fitsOpen
+    sized roomed makeRoom lay addRow addRows whyStart cleared start whyGet getValue hits foundBy found blockFor whyLay whyStore whyRow whyValues store
+    putFound putValue putValues whyFinish finished putRows total startsFrom roomFor cutFrom
     cutAll cutLens longOf viewBy whyRooms whyCompact compacted
 computed = 0

@@ -94,7 +94,8 @@ unfolding anyNull
 all-valid [] e r = refl
 all-valid (x ∷ xs) e r = by (x .valid) e r (all-valid xs)
   where
-    by : (t : Bool) → not t || anyNull xs ≡ false → (r : ℕ) → (anyNull xs ≡ false → (r : ℕ) → true ≡ getD (map validIn xs) r true) → true ≡ getD (t ∷ map validIn xs) r true
+    by : (t : Bool) → not t || anyNull xs ≡ false → (r : ℕ) → (anyNull xs ≡ false → (r : ℕ) → true ≡ getD (map validIn xs) r true)
+        → true ≡ getD (t ∷ map validIn xs) r true
     by true e zero rest = refl
     by true e (suc r) rest = rest e r
     by false e r rest = absurd (true≢false e)
@@ -142,7 +143,12 @@ module _ {m : ℕ} (b : Builder) (xs : List Cell) (i : Inv m b xs) where
 
   pub shows-finished : Shows (finished b .lent) (columnOf b) (map bytesIn xs) (map validIn xs)
   shows-finished =
-      record { rows = rows-shown; bits = same-bits; fitted = fitted (finished b .lent) (columnOf b) (record { rows = rows-fit; blocks = blocks-fit }); inside = inside }
+      record {
+        rows = rows-shown;
+        bits = same-bits;
+        fitted = fitted (finished b .lent) (columnOf b) (record { rows = rows-fit; blocks = blocks-fit });
+        inside = inside;
+      }
 
 -- ---- the check
 
@@ -161,4 +167,9 @@ unfolding whyInvalid refuse
 check-shown xs {l} {c} s o =
     let good : (r : ℕ) → r < c .rows → trueAt (c .kind) l c r ≡ true =
     λ r h. row-true l (c .kind) (c .blocks) (s .inside) (shows-row s r h) (kind-at (c .kind) xs o r (omega (arith, shows-rows s, length-map xs bytesIn))) in
-    rw (s .fitted, ← lowest-none (trueAt (c .kind) l c) (c .rows) (refuse Range (not (allInData l (c .blocks))) Accepted) good, all-inside l (c .blocks) (s .inside))
+    rw (
+      s .fitted,
+      ← lowest-none (trueAt (c .kind) l c) (c .rows) (refuse Range (not (allInData l (c .blocks))) Accepted) good,
+      all-inside l
+          (c .blocks) (s .inside),
+    )

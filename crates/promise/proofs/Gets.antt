@@ -41,7 +41,8 @@ module _ {m : ℕ} (b : Builder) (xs : List Cell) (i : Inv m b xs) where
   unfolding complete closed
   all-in k h = omega (arith, below-complete b (omega (arith, i .fits .blocks, block-table (b .lent))) (i .below) k h, i .fits .bytes, sizes-complete b .bytes)
 
-  shows-at : (r : ℕ) → r < b .state .rows → Row (blocksOf (recorded (b .state) (b .lent)) (allBlocks (b .state))) (viewAt (b .lent .views) r) (getD (map bytesIn xs) r [])
+  shows-at : (r : ℕ) → r < b .state .rows → Row (blocksOf (recorded (b .state) (b .lent)) (allBlocks (b .state))) (viewAt (b .lent .views) r)
+      (getD (map bytesIn xs) r [])
   unfolding blocksNow
   shows-at r h = row-of b xs i r h
 

@@ -1,4 +1,5 @@
--- A long value that merges takes the view of the earliest row that a value call stored with equal bytes since start or finish, after any calls. Assumes nothing.
+-- A long value that merges takes the view of the earliest row that a value call stored with equal bytes since start or finish, after any calls.
+-- Assumes nothing.
 use mathlib.Core.List.{List, []}
 use Prim.Native.Nat.{ℕ}
 use Rattle.builder.specs.declared.Merging.{Merging}

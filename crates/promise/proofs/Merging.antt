@@ -1,5 +1,5 @@
--- Over a merge table that holds, a long value that merges takes the view of its target. Start makes such a table, and so does finish; every accepted call keeps it.
--- What is needed of the rows is that each shows its bytes. Assumes nothing.
+-- Over a merge table that holds, a long value that merges takes the view of its target. Start makes such a table, and so does finish; every accepted
+-- call keeps it. What is needed of the rows is that each shows its bytes. Assumes nothing.
 use mathlib.Core.Path.{_≡_, refl, sym, ap, subst, _∙_}
 use mathlib.Core.Bool.{Bool, true, false, true≢false}
 use mathlib.Core.List.{List, [], _∷_, _++_}
@@ -112,7 +112,8 @@ places-are Off n p e = absurd (true≢false (sym e))
 places-are On n p e = refl
 places-are (UpTo k) n p e = refl
 
-value-room : (n : ℕ) (b : Builder) (x : List ℕ) → whyValues (suc n) b x ≡ Accepted → b .state .rows + suc n ≤ placesRoom (b .state .merging) (length (b .places))
+value-room : (n : ℕ) (b : Builder) (x : List ℕ) → whyValues (suc n) b x ≡ Accepted → b .state .rows + suc n ≤ placesRoom (b .state .merging)
+    (length (b .places))
 unfolding rowsRoom
 value-room n b x e = let p : Valued n b x = valued n b x e in omega (arith, p .room)
 
@@ -189,7 +190,8 @@ module _ (m : Merging) (b : Builder) (k : Memo) (g : Table m b k) (s : Reads b (
         go : (t : Bool) → merges (b .state .merging) (length x) ≡ t → pick t (search·from (b .places) (hits b x) (hashOf x)) Full ≡ Full
             → merges m (length x) ≡ false
         go true c e =
-            let p : placesRoom (b .state .merging) (length (b .places)) ≡ length (b .places) = places-are (b .state .merging) (length x) (length (b .places)) c in
+            let p : placesRoom (b .state .merging) (length (b .places)) ≡ length (b .places) = places-are (b .state .merging) (length x)
+            (length (b .places)) c in
             let u : inUse m ≡ true = in-use m (length x) (ap (λ (m : Merging). merges m (length x)) (sym (g .setting)) ∙ c) in
             absurd (room hashOf (merges m) (shownBy k) (b .places) (k .stored) (b .state .rows) (g .holds u) (hits b x) (hashOf x) (omega arith) e)
         go false c e = ap (λ (m : Merging). merges m (length x)) (sym (g .setting)) ∙ c
@@ -207,7 +209,8 @@ module _ (m : Merging) (b : Builder) (k : Memo) (g : Table m b k) (s : Reads b (
         setting = a .setting ∙ g .setting;
         holds = λ u.
             subst (λ (t : List ℕ). Holds hashOf (merges m) (λ r. getD (k .rows ++ ys) r no·value .bytes) t (k .stored) (b′ .state .rows)) (sym (a .places))
-            (kept hashOf (merges m) (shownBy k) (b .places) (k .stored) (b .state .rows) (g .holds u) (λ r. getD (k .rows ++ ys) r no·value .bytes) (b′ .state .rows) (old u ys)
+            (kept hashOf (merges m) (shownBy k) (b .places) (k .stored) (b .state .rows) (g .holds u) (λ r. getD (k .rows ++ ys) r no·value .bytes)
+            (b′ .state .rows) (old u ys)
             (omega (arith, a .rows)));
       }
 
@@ -228,11 +231,13 @@ module _ (m : Merging) (b : Builder) (k : Memo) (g : Table m b k) (s : Reads b (
           rows = refl;
           setting = g .setting;
           holds = λ u.
-              kept hashOf (merges m) (shownBy k) (b .places) (k .stored) (b .state .rows) (g .holds u) (λ r. getD all r no·value .bytes) (suc (b .state .rows)) (old u (replicate (suc n) (cell x true)))
+              kept hashOf (merges m) (shownBy k) (b .places) (k .stored) (b .state .rows) (g .holds u) (λ r. getD all r no·value .bytes)
+              (suc (b .state .rows)) (old u (replicate (suc n) (cell x true)))
               (omega arith);
         }
 
-    laid : (places : List ℕ) → (inUse m ≡ true → Holds hashOf (merges m) (λ r. getD all r no·value .bytes) places (k .stored ++ b .state .rows ∷ []) (suc (b .state .rows)))
+    laid : (places : List ℕ) → (inUse m ≡ true → Holds hashOf (merges m) (λ r. getD all r no·value .bytes) places (k .stored ++ b .state .rows ∷ [])
+        (suc (b .state .rows)))
         → One (store x (makeRoom (length x) (builder (b .state) (b .lent) places))) (k .stored ++ b .state .rows ∷ [])
     laid places h =
         let a = adds-store x (builder (b .state) (b .lent) places) in
@@ -240,7 +245,8 @@ module _ (m : Merging) (b : Builder) (k : Memo) (g : Table m b k) (s : Reads b (
           rows = omega (arith, a .rows);
           setting = a .setting ∙ g .setting;
           holds = λ u.
-              subst (λ (t : List ℕ). Holds hashOf (merges m) (λ r. getD all r no·value .bytes) t (k .stored ++ b .state .rows ∷ []) (suc (b .state .rows))) (sym (a .places)) (h u);
+              subst (λ (t : List ℕ). Holds hashOf (merges m) (λ r. getD all r no·value .bytes) t (k .stored ++ b .state .rows ∷ [])
+              (suc (b .state .rows))) (sym (a .places)) (h u);
         }
 
     new : getD all (b .state .rows) no·value .bytes ≡ x
@@ -252,7 +258,8 @@ module _ (m : Merging) (b : Builder) (k : Memo) (g : Table m b k) (s : Reads b (
     long-one (Free p) e =
         let u = found-free x p e in
         let c : placesRoom m (length (b .places)) ≡ length (b .places) = places-are m (length x) (length (b .places)) (u .0) in
-        let d : b .state .rows + suc n ≤ placesRoom m (length (b .places)) = subst (λ (m : Merging). b .state .rows + suc n ≤ placesRoom m (length (b .places))) (g .setting) (value-room n b x w) in
+        let d : b .state .rows + suc n ≤ placesRoom m (length (b .places)) = subst (λ (m : Merging). b .state .rows + suc n ≤ placesRoom m
+        (length (b .places))) (g .setting) (value-room n b x w) in
         laid (set (b .places) p (suc (b .state .rows)))
         (λ v. table.entered hashOf (merges m) (shownBy k) (b .places) (k .stored) (b .state .rows) (g .holds v) x (λ r. getD all r no·value .bytes) (hits b x) p
         (agree x v) (u .0) (old v (replicate (suc n) (cell x true))) new (omega arith) (u .1))
@@ -266,7 +273,8 @@ module _ (m : Merging) (b : Builder) (k : Memo) (g : Table m b k) (s : Reads b (
     unfolding putValue
     value-one = go (isShort (length x))
       where
-        go : (t : Bool) → One (pick t (addRow (shortView x) true b) (putFound (found b x) x b)) (pick t (k .stored) (storedBy (target m k x) (length (k .rows)) (k .stored)))
+        go : (t : Bool) → One (pick t (addRow (shortView x) true b) (putFound (found b x) x b))
+            (pick t (k .stored) (storedBy (target m k x) (length (k .rows)) (k .stored)))
         go true = plain (shortView x)
         go false = rw (← found-is x, s .count) (long-one (found b x) refl)
 
@@ -279,8 +287,10 @@ module _ (m : Merging) (b : Builder) (k : Memo) (g : Table m b k) (s : Reads b (
         record {
           setting = a .setting ∙ o .setting;
           holds = λ u.
-              subst (λ (t : List ℕ). Holds hashOf (merges m) (λ r. getD all r no·value .bytes) t st (addRows n v true (putValue x b) .state .rows)) (sym (a .places))
-              (kept hashOf (merges m) (λ r. getD all r no·value .bytes) (putValue x b .places) st (suc (b .state .rows)) (o .holds u) (λ r. getD all r no·value .bytes)
+              subst (λ (t : List ℕ). Holds hashOf (merges m) (λ r. getD all r no·value .bytes) t st (addRows n v true (putValue x b) .state .rows))
+              (sym (a .places))
+              (kept hashOf (merges m) (λ r. getD all r no·value .bytes) (putValue x b .places) st (suc (b .state .rows)) (o .holds u)
+              (λ r. getD all r no·value .bytes)
               (addRows n v true (putValue x b) .state .rows) (λ r i. refl) (omega (arith, a .rows, o .rows)));
         }
 
@@ -347,7 +357,8 @@ table-put m b k g s (add·values zero x) w = table-none m b k g s x
 table-put m b k g s (add·values (suc n) x) w = table-values m b k g s n x w
 table-put m b k g s add·null w = table-more m b k g s (putNull b) 1 (added add·null b) (adds-null m b k g s)
 table-put m b k g s (add·block x) w = table-more m b k g s (putBlock x b) 0 [] (adds-block m b k g s x)
-table-put m b k g s (add·view block offset n) w = table-more m b k g s (putView block offset n b) 1 (added (add·view block offset n) b) (adds-view m b k g s block offset n)
+table-put m b k g s (add·view block offset n) w = table-more m b k g s (putView block offset n b) 1 (added (add·view block offset n) b)
+    (adds-view m b k g s block offset n)
 table-put m b k g s (add·column l c) w = table-more m b k g s (putColumn l c b) (c .rows) (added (add·column l c) b) (adds-whole m b k g s l c)
 table-put m b k g s finish·copy w = table-more m b k g s (copied b) 0 [] (adds-copy m b k g s)
 table-put m b k g s finish w = table-finish m b (g .setting)

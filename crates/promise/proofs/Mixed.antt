@@ -16,7 +16,8 @@ use Rattle.promise.specs.Mixed.{Mixed, accepts, left}
 use Rattle.promise.proofs.Computed.{computed}
 
 pub mixed-runs : Mixed
-unfolding computed rotl mixed laneA laneB closed hashOf after seek search·from zeroView inData allInData bits.validAt whyRow bitOf whyNull putNull layBlock layBlocks sizes whyRoom whyBlock putBlock
+unfolding computed rotl mixed laneA laneB closed hashOf after seek search·from zeroView inData allInData bits.validAt whyRow bitOf whyNull putNull
+    layBlock layBlocks sizes whyRoom whyBlock putBlock
     viewed whyView putView renumbered addColumn whyColumn putColumn copied rowsAfter recallAll call·each taken·each built accepts left
 mixed-runs =
     record { joins = refl; puts = refl; shows = refl; blocks = refl; targets = refl; again = refl; after = refl; bits = refl; forgets = refl }

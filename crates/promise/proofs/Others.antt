@@ -41,7 +41,8 @@ unfolding recorded
 recorded-twice s l = by (isOpen s)
   where
     by : (t : Bool)
-        → buffers (l .views) (l .bytes) (pick t (set (pick t (set (l .table) (s .blocks) (block (s .base) (s .fill))) (l .table)) (s .blocks) (block (s .base) (s .fill))) (pick t (set (l .table) (s .blocks) (block (s .base) (s .fill))) (l .table))) (l .nulls)
+        → buffers (l .views) (l .bytes) (pick t (set (pick t (set (l .table) (s .blocks) (block (s .base) (s .fill))) (l .table)) (s .blocks)
+        (block (s .base) (s .fill))) (pick t (set (l .table) (s .blocks) (block (s .base) (s .fill))) (l .table))) (l .nulls)
         ≡ buffers (l .views) (l .bytes) (pick t (set (l .table) (s .blocks) (block (s .base) (s .fill))) (l .table)) (l .nulls)
     by true = rw (set-set (l .table) (s .blocks) (block (s .base) (s .fill)) (block (s .base) (s .fill)))
     by false = refl
@@ -61,9 +62,11 @@ below-copied b below = by (isOpen (b .state))
     new = block (b .state .base) (b .state .fill)
 
     by : (o : Bool) → (k : ℕ) → k < b .state .blocks
-        → getD (pick o (set t (b .state .blocks) new) t) k (block 0 0) .start + getD (pick o (set t (b .state .blocks) new) t) k (block 0 0) .len ≤ b .state .base
+        → getD (pick o (set t (b .state .blocks) new) t) k (block 0 0) .start + getD (pick o (set t (b .state .blocks) new) t) k (block 0 0) .len
+        ≤ b .state .base
     by true k h =
-        let other : getD (set t (b .state .blocks) new) k (block 0 0) ≡ getD t k (block 0 0) = getD-set-other t (b .state .blocks) k new (block 0 0) (λ e. omega arith) in
+        let other : getD (set t (b .state .blocks) new) k (block 0 0) ≡ getD t k (block 0 0) = getD-set-other t (b .state .blocks) k new (block 0 0)
+        (λ e. omega arith) in
         rw other (below k h)
     by false k h = below k h
 
@@ -84,7 +87,13 @@ inv-copy b xs i =
       nulled = i .nulled;
       kinds = i .kinds;
       below = below-copied b (i .below);
-      fits = record { rows = omega (arith, i .fits .rows, same-rows b); blocks = omega (arith, i .fits .blocks, same-blocks b); bytes = i .fits .bytes; growth = i .fits .growth };
+      fits = record {
+        rows = omega (arith, i .fits .rows, same-rows b);
+        blocks = omega (arith, i .fits .blocks, same-blocks b);
+        bytes =
+            i .fits .bytes;
+        growth = i .fits .growth;
+      };
       room = same-rows b ∙ i .room;
     }
 
@@ -122,12 +131,14 @@ table-snoc t k at (y ∷ xs) x =
 paste-snoc : (d : List ℕ) (at : ℕ) (x y : List ℕ) → at + length x + length y ≤ length d
     → paste (paste d at x (length x)) (at + length x) y (length y) ≡ paste d at (x ++ y) (length (x ++ y))
 paste-snoc d at x y h =
-    let front : take (at + length x) (paste d at x (length x)) ≡ take at d ++ x = take-paste d at x (length x) (omega arith) (omega arith) ∙ ap (λ (z : List ℕ). take at d ++ z) (take-length x) in
+    let front : take (at + length x) (paste d at x (length x)) ≡ take at d ++ x = take-paste d at x (length x) (omega arith) (omega arith)
+    ∙ ap (λ (z : List ℕ). take at d ++ z) (take-length x) in
     let n : at + length x + length y ≡ at + length (x ++ y) = rw length-append (omega arith) in
     let back : drop (at + length x + length y) (paste d at x (length x)) ≡ drop (at + length (x ++ y)) d =
     sym (drop-drop (length y) (at + length x) (paste d at x (length x))) ∙ ap (drop (length y)) (drop-paste d at x (length x) (omega arith) (omega arith))
     ∙ drop-drop (length y) (at + length x) d ∙ ap (λ (k : ℕ). drop k d) n in
-    let mid : take at d ++ x ++ y ≡ take at d ++ take (length (x ++ y)) (x ++ y) = append-assoc (take at d) x y ∙ ap (λ (z : List ℕ). take at d ++ z) (sym (take-length (x ++ y))) in
+    let mid : take at d ++ x ++ y ≡ take at d ++ take (length (x ++ y)) (x ++ y) = append-assoc (take at d) x y ∙ ap (λ (z : List ℕ). take at d ++ z)
+    (sym (take-length (x ++ y))) in
     (λ i. front i ++ take-length y i ++ back i) ∙ ap (λ (z : List ℕ). z ++ drop (at + length (x ++ y)) d) mid
 
 snoc-whole : (xs : List (List ℕ)) (x : List ℕ) (b : Builder) → b .state .base + length (flat xs) + length x ≤ length (b .lent .bytes)
@@ -141,7 +152,8 @@ snoc-whole xs x b h =
     let data′ : paste (paste (l .bytes) (s .base) (flat xs) (length (flat xs))) (s .base + length (flat xs)) x (length x)
     ≡ paste (l .bytes) (s .base) (flat (xs ++ x ∷ [])) (length (flat (xs ++ x ∷ []))) = rw (flat-snoc xs x) (paste-snoc (l .bytes) (s .base) (flat xs) x h) in
     let table′ = sym (table-snoc (l .table) (s .blocks) (s .base) xs x) in
-    λ i. builder (moved s (s .growth) (s .rows) (count i) (size i) (s .fill) (s .cap) (s .nulled)) (buffers (l .views) (data′ i) (table′ i) (l .nulls)) (b .places)
+    λ i. builder (moved s (s .growth) (s .rows) (count i) (size i) (s .fill) (s .cap) (s .nulled)) (buffers (l .views) (data′ i) (table′ i)
+    (l .nulls)) (b .places)
 
 no-whole : (b : Builder) → b ≡ wholes [] b
 unfolding wholes flat putTable
@@ -154,11 +166,13 @@ no-whole b =
     (buffers (l .views) (paste-zero (l .bytes) (s .base) [] i) (l .table) (l .nulls)) (b .places)
 
 -- blocks laid each after the other are laid whole
-pub lay-wholes : (n : ℕ) (f : ℕ → List ℕ) (b : Builder) → b .state .base + length (flat (rowsOf f n)) ≤ length (b .lent .bytes) → layBlocks n f b ≡ wholes (rowsOf f n) b
+pub lay-wholes : (n : ℕ) (f : ℕ → List ℕ) (b : Builder) → b .state .base + length (flat (rowsOf f n)) ≤ length (b .lent .bytes) → layBlocks n f b
+    ≡ wholes (rowsOf f n) b
 unfolding layBlocks rowsOf
 lay-wholes zero f b h = no-whole b
 lay-wholes (suc n) f b h =
-    let size : length (flat (rowsOf f n ++ f n ∷ [])) ≡ length (flat (rowsOf f n)) + length (f n) = rw (flat-snoc (rowsOf f n) (f n)) (length-append (flat (rowsOf f n)) (f n)) in
+    let size : length (flat (rowsOf f n ++ f n ∷ [])) ≡ length (flat (rowsOf f n)) + length (f n) = rw (flat-snoc (rowsOf f n) (f n))
+    (length-append (flat (rowsOf f n)) (f n)) in
     ap (layBlock (f n)) (lay-wholes n f b (omega arith)) ∙ snoc-whole (rowsOf f n) (f n) b (omega arith)
 
 module _ {m : ℕ} (b : Builder) (xs : List Cell) (ys : List (List ℕ)) (i : Inv m b xs)
@@ -172,7 +186,8 @@ module _ {m : ℕ} (b : Builder) (xs : List Cell) (ys : List (List ℕ)) (i : In
   data-room : used (b .state) + length (flat ys) ≤ length (b .lent .bytes)
   data-room = omega (arith, data-bytes (b .lent))
 
-  ends : (j : ℕ) → j < allBlocks (b .state) → blockAt (recorded (b .state) (b .lent)) j .start + blockAt (recorded (b .state) (b .lent)) j .len ≤ used (b .state)
+  ends : (j : ℕ) → j < allBlocks (b .state) → blockAt (recorded (b .state) (b .lent)) j .start + blockAt (recorded (b .state) (b .lent)) j .len ≤ used
+      (b .state)
   unfolding complete closed
   ends = below-complete b (omega (arith, i .fits .blocks, block-table (b .lent))) (i .below)
 
@@ -202,7 +217,12 @@ module _ {m : ℕ} (b : Builder) (xs : List Cell) (ys : List (List ℕ)) (i : In
   fits-whole =
       record {
         rows = omega (arith, i .fits .rows, rows-whole);
-        blocks = omega (arith, blocks-room, length-put-table (recorded (b .state) (b .lent) .table) (allBlocks (b .state)) (used (b .state)) ys, length-recorded (b .state) (b .lent));
+        blocks = omega (
+          arith,
+          blocks-room,
+          length-put-table (recorded (b .state) (b .lent) .table) (allBlocks (b .state)) (used (b .state)) ys,
+          length-recorded (b .state) (b .lent),
+        );
         bytes = omega (arith, bytes-room, length-paste (b .lent .bytes) (used (b .state)) (flat ys) (length (flat ys)) data-room (omega arith));
         growth = i .fits .growth;
       }

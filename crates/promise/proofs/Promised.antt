@@ -65,7 +65,8 @@ module _ (xs : List Item) where
   ordered : {l : Lent} {c : Column} {m : Lent} {d : Column} → Made xs l c → Made xs m d → Ordered xs l c m d
   ordered p q =
       record {
-        order = λ i j h k. rw (← item-bytes i, ← item-bytes j) (kept .compares (map cellFor xs) (map cellFor xs) (filed xs p) (filed xs q) i j (there i h) (there j k));
+        order = λ i j h k. rw (← item-bytes i, ← item-bytes j) (kept .compares (map cellFor xs) (map cellFor xs) (filed xs p) (filed xs q) i j
+            (there i h) (there j k));
       }
 
 -- any list of values and nulls

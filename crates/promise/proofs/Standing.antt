@@ -50,7 +50,8 @@ unfolding copied recorded blocksOf
 done-copied b = by (isOpen (b .state))
   where
     by : (t : Bool)
-        → blocksOf (buffers (b .lent .views) (b .lent .bytes) (pick t (set (b .lent .table) (b .state .blocks) (block (b .state .base) (b .state .fill))) (b .lent .table)) (b .lent .nulls)) (b .state .blocks)
+        → blocksOf (buffers (b .lent .views) (b .lent .bytes)
+        (pick t (set (b .lent .table) (b .state .blocks) (block (b .state .base) (b .state .fill))) (b .lent .table)) (b .lent .nulls)) (b .state .blocks)
         ≡ blocksOf (b .lent) (b .state .blocks)
     by true = rw (take-set-le (b .state .blocks) (b .lent .table) (b .state .blocks) (block (b .state .base) (b .state .fill)) (omega arith))
     by false = refl
@@ -62,8 +63,11 @@ done-grown n b = refl
 
 grows-now : {m : ℕ} (b : Builder) (xs : List Cell) → Inv m b xs → (ys : List (List ℕ)) (c : Builder) → doneOf c ≡ blocksNow b ++ ys → Grows b c
 grows-now b xs i ys c e =
-    let now = now-are b (omega (arith, i .fits .blocks, block-table (b .lent))) in
-    (opened (isOpen (b .state)) (openOf b) ++ ys, e ∙ ap (λ (z : List (List ℕ)). z ++ ys) now ∙ append-assoc (doneOf b) (opened (isOpen (b .state)) (openOf b)) ys)
+    let now = now-are b (omega (arith, i .fits .blocks, block-table (b .lent))) in (
+      opened (isOpen (b .state)) (openOf b) ++ ys,
+      e ∙ ap (λ (z : List (List ℕ)). z ++ ys) now
+          ∙ append-assoc (doneOf b) (opened (isOpen (b .state)) (openOf b)) ys,
+    )
 
 grows-room : {m : ℕ} (n : ℕ) (b : Builder) (xs : List Cell) → Inv m b xs → Grows b (makeRoom n b)
 grows-room n b xs i = subst (λ (c : Builder). Grows b c) (sym (room-is n b)) (by (fitsOpen (b .state) n))
@@ -95,7 +99,8 @@ module _ {m : ℕ} (b : Builder) (xs : List Cell) (x : List ℕ) (i : Inv m b xs
   grows-laid : (f : Found) → shortMost < length x → Takes b (length x) → Grows b (store x (makeRoom (length x) (enter f b)))
   grows-laid f long w = grows-store (enter f b) xs x (inv-enter f b xs i) long w
 
-  grows-found : (f : Found) → shortMost < length x → pick (isRow f) Accepted (whyLay (b .state) (blockRoom (b .lent)) (dataRoom (b .lent)) (length x)) ≡ Accepted → Grows b (putFound f x b)
+  grows-found : (f : Found) → shortMost < length x → pick (isRow f) Accepted (whyLay (b .state) (blockRoom (b .lent)) (dataRoom (b .lent)) (length x))
+      ≡ Accepted → Grows b (putFound f x b)
   unfolding putFound
   grows-found (Row r) long w = same-done b (addRow (viewAt (b .lent .views) r) true b) (done-row (viewAt (b .lent .views) r) true b)
   grows-found (Free p) long w = grows-laid (Free p) long w
@@ -132,7 +137,8 @@ done-view : (b : Builder) (k offset n : ℕ) → doneOf (putView k offset n b) �
 unfolding putView
 done-view b k offset n = done-row _ true b
 
-pub stays-put : {m : ℕ} (c : Call) (b : Builder) (xs : List Cell) → Inv m b xs → why c b ≡ Accepted → (ys : List (List ℕ)) × (doneOf (put c b) ≡ leaves c b ++ ys)
+pub stays-put : {m : ℕ} (c : Call) (b : Builder) (xs : List Cell) → Inv m b xs → why c b ≡ Accepted → (ys : List (List ℕ))
+    × (doneOf (put c b) ≡ leaves c b ++ ys)
 stays-put (add·values n x) b xs i w = grows-values b xs x i n w
 stays-put add·null b xs i w = same-done b (putNull b) (done-null b)
 stays-put (add·block x) b xs i w = grows-now b xs i (x ∷ []) (putBlock x b) (done-block b xs x i w)

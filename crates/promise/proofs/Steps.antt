@@ -65,15 +65,18 @@ pub record Inv (m : ℕ) (b : Builder) (xs : List Cell) : Type 0 where
   pub room : rowsRoom b ≡ m
 
 -- the view of a row that shows a cell
-pub row-of : {m : ℕ} (b : Builder) (xs : List Cell) → Inv m b xs → (r : ℕ) → r < b .state .rows → Row (blocksNow b) (viewAt (b .lent .views) r) (getD (map bytesIn xs) r [])
+pub row-of : {m : ℕ} (b : Builder) (xs : List Cell) → Inv m b xs → (r : ℕ) → r < b .state .rows → Row (blocksNow b) (viewAt (b .lent .views) r)
+    (getD (map bytesIn xs) r [])
 row-of b xs i r h =
     subst (λ (v : List ℕ). Row (blocksNow b) v (getD (map bytesIn xs) r [])) (getD-rows (viewAt (b .lent .views)) (b .state .rows) r [] h)
     (rows-at (i .shows) r (rw (length-rows (viewAt (b .lent .views)) (b .state .rows)) h))
 
 -- a row more
-module _ {m : ℕ} (b : Builder) (xs : List Cell) (v : List ℕ) (x : Cell) (i : Inv m b xs) (r : Row (blocksNow b) v (x .bytes)) (o : ofKind (b .state .kind) (x .bytes) ≡ true)
+module _ {m : ℕ} (b : Builder) (xs : List Cell) (v : List ℕ) (x : Cell) (i : Inv m b xs) (r : Row (blocksNow b) v (x .bytes))
+    (o : ofKind (b .state .kind) (x .bytes) ≡ true)
     (h : b .state .rows < rowsRoom b) where
-  row-shows : Rows (blocksNow (addRow v (x .valid) b)) (rowsOf (viewAt (addRow v (x .valid) b .lent .views)) (suc (b .state .rows))) (map bytesIn (xs ++ x ∷ []))
+  row-shows : Rows (blocksNow (addRow v (x .valid) b)) (rowsOf (viewAt (addRow v (x .valid) b .lent .views)) (suc (b .state .rows)))
+      (map bytesIn (xs ++ x ∷ []))
   unfolding addRow
   row-shows =
       rw (now-row v (x .valid) b, views-paste (b .lent .views) v (b .state .rows) (r .size) (omega (arith, row-views b)), map-append bytesIn xs (x ∷ []))
@@ -93,14 +96,29 @@ module _ {m : ℕ} (b : Builder) (xs : List Cell) (v : List ℕ) (x : Cell) (i :
 
   pub inv-row : Inv m (addRow v (x .valid) b) (xs ++ x ∷ [])
   unfolding addRow
-  inv-row = record { shows = row-shows; bits = row-bit; nulled = row-nulled; kinds = kind-snoc x (i .kinds) o; below = i .below; fits = row-fits (sizes-row v (x .valid) b (r .size) h); room = sizes-row v (x .valid) b (r .size) h .rows ∙ i .room }
+  inv-row = record {
+    shows = row-shows;
+    bits = row-bit;
+    nulled = row-nulled;
+    kinds = kind-snoc x (i .kinds) o;
+    below = i .below;
+    fits = row-fits
+        (sizes-row v (x .valid) b (r .size) h);
+    room = sizes-row v (x .valid) b (r .size) h .rows ∙ i .room;
+  }
 
 -- the open block completed, and a size taken
 fits-complete : (b : Builder) → Fits b → Fits (complete b)
 unfolding complete closed allBlocks
 fits-complete b f =
     let s = sizes-complete b in
-    record { rows = omega (arith, f .rows, s .rows); blocks = omega (arith, f .blocks, s .blocks); bytes = omega (arith, f .bytes, s .bytes); growth = f .growth }
+    record {
+      rows = omega (arith, f .rows, s .rows);
+      blocks = omega (arith, f .blocks, s .blocks);
+      bytes = omega (arith, f .bytes, s .bytes);
+      growth =
+          f .growth;
+    }
 
 pub inv-complete : {m : ℕ} (b : Builder) (xs : List Cell) → Inv m b xs → Inv m (complete b) xs
 unfolding complete closed recorded
@@ -124,7 +142,16 @@ fits-grow n b f =
 pub inv-grow : {m : ℕ} (n : ℕ) (b : Builder) (xs : List Cell) → Inv m b xs → Inv m (grow n b) xs
 unfolding grow sized
 inv-grow n b xs i =
-    record { shows = rw (now-grow n b) (i .shows); bits = i .bits; nulled = i .nulled; kinds = i .kinds; below = i .below; fits = fits-grow n b (i .fits); room = sizes-grow n b .rows ∙ i .room }
+    record {
+      shows = rw (now-grow n b) (i .shows);
+      bits = i .bits;
+      nulled = i .nulled;
+      kinds = i .kinds;
+      below = i .below;
+      fits = fits-grow n b
+          (i .fits);
+      room = sizes-grow n b .rows ∙ i .room;
+    }
 
 -- a row entered in the merge table
 pub inv-enter : {m : ℕ} (p : Found) (b : Builder) (xs : List Cell) → Inv m b xs → Inv m (enter p b) xs
@@ -182,7 +209,8 @@ module _ {m : ℕ} (b : Builder) (xs : List Cell) (x : List ℕ) (i : Inv m b xs
   stored : Row (blocksNow (lay x b)) (longView x (b .state .blocks) (b .state .fill)) x
   stored =
       rw (now-lay x b (omega arith) (i .below) table enough)
-      (rw (length-done x b (omega arith) (i .below) table enough, length-open x b (omega arith) (i .below) table enough) at (placed (doneOf b) (openOf b) x long numbers))
+      (rw (length-done x b (omega arith) (i .below) table enough, length-open x b (omega arith) (i .below) table enough) at
+      (placed (doneOf b) (openOf b) x long numbers))
 
   enter-room : b .state .rows < rowsRoom b → lay x b .state .rows < rowsRoom (lay x b)
   unfolding lay

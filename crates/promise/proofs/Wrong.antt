@@ -41,7 +41,8 @@ equating = library (whyValues 1) (putValues 1) columnOf (λ l c i m d j. compare
 pub not-equating : Meets equating → ⊥
 unfolding computed appendAll accepts
 not-equating m =
-    let e : compared.Is Equal ≡ compared.Is Less = m .orders {t = plain Doubled} {l = zeroed} {places = []} (mar ∷ may ∷ []) 0 1 (record { start = refl; values = refl; finish = refl }) (lit< tt) (lit< tt) in
+    let e : compared.Is Equal ≡ compared.Is Less = m .orders {t = plain Doubled} {l = zeroed} {places = []} (mar ∷ may ∷ []) 0 1
+    (record { start = refl; values = refl; finish = refl }) (lit< tt) (lit< tt) in
     let z : _≡_ {A = ℕ} 0 1 = cc in
     omega arith
 
@@ -52,19 +53,22 @@ idle = library (whyValues 1) (λ x b. builder (putValues 1 x b .state) (b .lent)
 pub not-idle : Meets idle → ⊥
 unfolding computed appendAll accepts
 not-idle m =
-    let e : _≡_ {A = List ℕ} [] (65 ∷ []) = m .shows {t = plain Doubled} {l = zeroed} {places = []} ((65 ∷ []) ∷ []) 0 (record { start = refl; values = refl; finish = refl }) (lit< tt) in
+    let e : _≡_ {A = List ℕ} [] (65 ∷ []) = m .shows {t = plain Doubled} {l = zeroed} {places = []} ((65 ∷ []) ∷ []) 0
+    (record { start = refl; values = refl; finish = refl }) (lit< tt) in
     let z : _≡_ {A = ℕ} 0 1 = cc in
     omega arith
 
 -- stores its first row and gives every other row the first one's view
 abbrev faking : Library
 faking =
-    library (whyValues 1) (λ x b. pick (eqb (b .state .rows) 0) (putValues 1 x b) (addRow (viewAt (b .lent .views) 0) true b)) columnOf compareRows nullRun totalBytesLen
+    library (whyValues 1) (λ x b. pick (eqb (b .state .rows) 0) (putValues 1 x b) (addRow (viewAt (b .lent .views) 0) true b)) columnOf compareRows
+    nullRun totalBytesLen
 
 pub not-faking : Meets faking → ⊥
 unfolding computed appendAll accepts
 not-faking m =
-    let e : mar ≡ may = m .shows {t = plain Doubled} {l = zeroed} {places = []} (mar ∷ may ∷ []) 1 (record { start = refl; values = refl; finish = refl }) (lit< tt) in
+    let e : mar ≡ may = m .shows {t = plain Doubled} {l = zeroed} {places = []} (mar ∷ may ∷ []) 1
+    (record { start = refl; values = refl; finish = refl }) (lit< tt) in
     let z : _≡_ {A = ℕ} 82 89 = cc in
     omega arith
 

@@ -79,14 +79,17 @@ pub record Kept·by·contracts (xs : List Item) : Type 0 where
   -- the third promise
   pub shows : {b : Buffers} {c : Column} → Answered xs b c → Faithful xs (lent·as b) c
   pub compares : {b : Buffers} {c : Column} {d : Buffers} {e : Column} → Answered xs b c → Answered xs d e → Ordered xs (lent·as b) c (lent·as d) e
-  pub bounds : (most : ℕ) (o : Buffers) (r : compaction.Outcome) (o′ : Buffers) {b : Buffers} {c : Column} → Answered xs b c → Compact·met most b c o r o′ → Bounded most (lent·as o′) (r .column)
+  pub bounds : (most : ℕ) (o : Buffers) (r : compaction.Outcome) (o′ : Buffers) {b : Buffers} {c : Column} → Answered xs b c
+      → Compact·met most b c o r o′ → Bounded most (lent·as o′) (r .column)
   -- and every such column passes the check
   pub checks : {b : Buffers} {c : Column} → Answered xs b c → whyInvalid (lent·as b) c ≡ Accepted
 
 -- what compaction answers continues what was made and filed by any calls, and an offset column is filed
 pub record Continued : Type 0 where
-  pub made : (xs : List Item) (most : ℕ) (b : Buffers) (c : Column) (o : Buffers) (r : compaction.Outcome) (o′ : Buffers) → Made xs (lent·as b) c → Compact·met most b c o r o′
+  pub made : (xs : List Item) (most : ℕ) (b : Buffers) (c : Column) (o : Buffers) (r : compaction.Outcome) (o′ : Buffers) → Made xs (lent·as b) c
+      → Compact·met most b c o r o′
       → Made xs (lent·as o′) (r .column)
-  pub filed : (xs : List Cell) (most : ℕ) (b : Buffers) (c : Column) (o : Buffers) (r : compaction.Outcome) (o′ : Buffers) → Filed xs (lent·as b) c → Compact·met most b c o r o′
+  pub filed : (xs : List Cell) (most : ℕ) (b : Buffers) (c : Column) (o : Buffers) (r : compaction.Outcome) (o′ : Buffers) → Filed xs (lent·as b) c
+      → Compact·met most b c o r o′
       → Filed xs (lent·as o′) (r .column)
   pub offsets : (s : Source) (k : Kind) (o : Buffers) (r : offsets.Outcome) (o′ : Buffers) → Convert·met s k o r o′ → Filed (cellsOf s) (lent·as o′) (r .column)

@@ -48,10 +48,14 @@ pub record Compactions : Type 0 where
   pub shows : (most : ℕ) (l : Lent) (c : Column) (out : Lent) → whyInvalid l c ≡ Accepted → whyCompact most l c out ≡ Accepted
       → Alike l c (compacted most l c out) (compactColumn most l c)
   -- the rest holds of every column that compaction takes, though a block of it that no row reaches lie outside the data
-  pub checks : (most : ℕ) (l : Lent) (c : Column) (out : Lent) → whyCompact most l c out ≡ Accepted → whyInvalid (compacted most l c out) (compactColumn most l c) ≡ Accepted
-  pub bounds : (most : ℕ) (l : Lent) (c : Column) (out : Lent) → whyCompact most l c out ≡ Accepted → Bounded most (compacted most l c out) (compactColumn most l c)
+  pub checks : (most : ℕ) (l : Lent) (c : Column) (out : Lent) → whyCompact most l c out ≡ Accepted → whyInvalid (compacted most l c out)
+      (compactColumn most l c) ≡ Accepted
+  pub bounds : (most : ℕ) (l : Lent) (c : Column) (out : Lent) → whyCompact most l c out ≡ Accepted → Bounded most (compacted most l c out)
+      (compactColumn most l c)
   -- the new blocks have as many bytes as `total_buffer_bytes_used` says of the source
   pub used : (most : ℕ) (l : Lent) (c : Column) (out : Lent) → whyCompact most l c out ≡ Accepted
       → totalBufferBytesUsed l c ≡ number.Is (total (lensIn (compacted most l c out) (compactColumn most l c .blocks)))
-  pub again : (most : ℕ) (l : Lent) (c : Column) (out out₂ : Lent) → whyCompact most l c out ≡ Accepted → whyCompact most (compacted most l c out) (compactColumn most l c) out₂ ≡ Accepted
-      → Unchanged (compacted most l c out) (compactColumn most l c) (compacted most (compacted most l c out) (compactColumn most l c) out₂) (compactColumn most (compacted most l c out) (compactColumn most l c))
+  pub again : (most : ℕ) (l : Lent) (c : Column) (out out₂ : Lent) → whyCompact most l c out ≡ Accepted → whyCompact most (compacted most l c out)
+      (compactColumn most l c) out₂ ≡ Accepted
+      → Unchanged (compacted most l c out) (compactColumn most l c) (compacted most (compacted most l c out) (compactColumn most l c) out₂)
+      (compactColumn most (compacted most l c out) (compactColumn most l c))

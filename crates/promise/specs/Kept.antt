@@ -40,7 +40,8 @@ pub data Filed (xs : List Cell) : Lent → Column → Type 0 where
       → rowsAfter cs (start t l places) [] ≡ xs → Filed xs (finished b .lent) (columnOf b)
   converted : (s : Source) (k : Kind) (out : Lent) → whyOffsets 4 s k out ≡ Accepted → rowsOf (λ r. cell (valueIn 4 s r) (validRow 4 s r)) (rowsIn 4 s) ≡ xs
       → Filed xs (fromOffsets 4 s out) (offsetColumn 4 s k)
-  again : (most : ℕ) (out : Lent) {l : Lent} {c : Column} → Filed xs l c → whyCompact most l c out ≡ Accepted → Filed xs (compacted most l c out) (compactColumn most l c)
+  again : (most : ℕ) (out : Lent) {l : Lent} {c : Column} → Filed xs l c → whyCompact most l c out ≡ Accepted → Filed xs (compacted most l c out)
+      (compactColumn most l c)
 
 -- each row of a column shows its cell, bytes and bit, and the column passes the check
 pub record Shown (xs : List Cell) (l : Lent) (c : Column) : Type 0 where
@@ -78,4 +79,5 @@ pub record Kept : Type 0 where
   -- no call changes a completed block; a block call's is the next after all that there were, and holds its bytes; so it is with a column's
   pub stay : (b : Builder) → Reached b → (c : Call) → why c b ≡ Accepted → (ys : List (List ℕ)) × (completed (put c b) ≡ leaves c b ++ ys)
   pub block : (b : Builder) → Reached b → (x : List ℕ) → whyBlock b x ≡ Accepted → completed (putBlock x b) ≡ blocksNow b ++ x ∷ []
-  pub column : (b : Builder) → Reached b → (l : Lent) (c : Column) → whyColumn l c b ≡ Accepted → completed (putColumn l c b) ≡ blocksNow b ++ blocksOf l (c .blocks)
+  pub column : (b : Builder) → Reached b → (l : Lent) (c : Column) → whyColumn l c b ≡ Accepted → completed (putColumn l c b)
+      ≡ blocksNow b ++ blocksOf l (c .blocks)

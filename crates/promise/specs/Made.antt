@@ -1,5 +1,5 @@
--- The columns that come of one list of values and nulls: finished under any settings, over buffers of any content and size, and compacted, again and again, into
--- buffers of their own at any maximum. What is promised of them is said by the definitions of the reading calls. Assumes nothing.
+-- The columns that come of one list of values and nulls: finished under any settings, over buffers of any content and size, and compacted, again and
+-- again, into buffers of their own at any maximum. What is promised of them is said by the definitions of the reading calls. Assumes nothing.
 use mathlib.Core.Path.{_≡_}
 use mathlib.Core.List.{List, map}
 use Prim.Native.Nat.{ℕ, _<_}
@@ -24,7 +24,8 @@ use Rattle.promise.specs.Calls.{Item, null, bytesOf, isValue, Entry, cal
 pub data Made (xs : List Item) : Lent → Column → Type 0 where
   built : (t : Settings) (l : Lent) (places : List ℕ) (cs : List Entry) (b : Builder)
       → whyStart t ≡ Accepted → appended cs ≡ xs → Ran (map call cs) (start t l places) b → whyFinish b ≡ Accepted → Made xs (finished b .lent) (columnOf b)
-  again : (most : ℕ) (out : Lent) {l : Lent} {c : Column} → Made xs l c → whyCompact most l c out ≡ Accepted → Made xs (compacted most l c out) (compactColumn most l c)
+  again : (most : ℕ) (out : Lent) {l : Lent} {c : Column} → Made xs l c → whyCompact most l c out ≡ Accepted → Made xs (compacted most l c out)
+      (compactColumn most l c)
 
 -- at each row the value or null that was appended
 pub record Faithful (xs : List Item) (l : Lent) (c : Column) : Type 0 where
@@ -35,10 +36,12 @@ pub record Faithful (xs : List Item) (l : Lent) (c : Column) : Type 0 where
 
 -- rows of two columns compare as what was appended, a null counting as empty
 pub record Ordered (xs : List Item) (l : Lent) (c : Column) (m : Lent) (d : Column) : Type 0 where
-  pub order : (i j : ℕ) → i < length xs → j < length xs → compareRows l c i m d j ≡ compared.Is (orderOf (cmp (bytesOf (getD xs i null)) (bytesOf (getD xs j null))))
+  pub order : (i j : ℕ) → i < length xs → j < length xs → compareRows l c i m d j
+      ≡ compared.Is (orderOf (cmp (bytesOf (getD xs i null)) (bytesOf (getD xs j null))))
 
 -- the third promise
 pub record Promise (xs : List Item) : Type 0 where
   pub shows : {l : Lent} {c : Column} → Made xs l c → Faithful xs l c
   pub compares : {l : Lent} {c : Column} {m : Lent} {d : Column} → Made xs l c → Made xs m d → Ordered xs l c m d
-  pub bounds : (most : ℕ) (out : Lent) {l : Lent} {c : Column} → Made xs l c → whyCompact most l c out ≡ Accepted → Bounded most (compacted most l c out) (compactColumn most l c)
+  pub bounds : (most : ℕ) (out : Lent) {l : Lent} {c : Column} → Made xs l c → whyCompact most l c out ≡ Accepted
+      → Bounded most (compacted most l c out) (compactColumn most l c)

@@ -59,8 +59,8 @@ recallAll m (c ∷ cs) b k = recallAll m cs (put c b) (recall m c b k)
 abbrev pub again : ℕ → ℕ → Builder → Builder
 again n r b = addRows n (viewAt (b .lent .views) r) true b
 
--- x, n times and once more: it takes the view of its target, and no other byte than its rows' is written; without a target it is laid once and its first row shows
--- where, the others being copies of that. The merge table is left open.
+-- x, n times and once more: it takes the view of its target, and no other byte than its rows' is written; without a target it is laid once and its
+-- first row shows where, the others being copies of that. The merge table is left open.
 abbrev pub Takes : Option ℕ → ℕ → List ℕ → Builder → Type 0
 Takes (some r) n x b = putValues (suc n) x b ≡ again (suc n) r b
 Takes none n x b = (places : List ℕ) × (putValues (suc n) x b ≡ again n (b .state .rows) (store x (makeRoom (length x) (builder (b .state) (b .lent) places))))

@@ -57,7 +57,8 @@ module _ (l : Lent) (c : Column) (r : ℕ) where
 
 -- ---- over any table, its bytes and its place
 
-module _ (views bytes nulls : List ℕ) (table : List Block) (c : Column) (r : ℕ) (x : Located) (e : x ≡ spec.locatedAt (buffers views bytes table nulls) c r) where
+module _ (views bytes nulls : List ℕ) (table : List Block) (c : Column) (r : ℕ) (x : Located) (e : x
+    ≡ spec.locatedAt (buffers views bytes table nulls) c r) where
   abbrev l : Lent
   l = buffers views bytes table nulls
 
@@ -81,7 +82,8 @@ module _ (views bytes nulls : List ℕ) (table : List Block) (c : Column) (r : �
       by : (w : Why) → whyValue l c r ≡ w → bytesOf views bytes (locatedBy w there) ≡ ifAccepted w (shownAt l c r) []
       by Accepted p =
           let g = value-readable l c r (ap isAccepted p) in
-          spot-shown views bytes nulls table (c .blocks) (c .first + r) there refl (found-reach views bytes nulls table (c .blocks) (c .first + r) there refl ∙ g .reach)
+          spot-shown views bytes nulls table (c .blocks) (c .first + r) there refl (found-reach views bytes nulls table (c .blocks) (c .first + r)
+          there refl ∙ g .reach)
       by (Refused z) p = refl
 
 -- ---- a located value in hand

@@ -61,7 +61,8 @@ unfolding putValue putFound
 value-many x b =
     let f = found b x in
     pick-many (isShort (length x)) _ _ (many b) (row-many (shortView x) true b)
-    (pick-many (isRow f) _ _ (many b) (row-many (viewAt (b .lent .views) (rowOf f)) true b) (store-many x (makeRoom (length x) (enter f b)) ∙ room-many (length x) (enter f b)))
+    (pick-many (isRow f) _ _ (many b) (row-many (viewAt (b .lent .views) (rowOf f)) true b) (store-many x (makeRoom (length x) (enter f b))
+    ∙ room-many (length x) (enter f b)))
 
 values-many : (x : List ℕ) (b : Builder) → many (putValues 1 x b) ≡ many b
 unfolding putValues addRows
@@ -137,5 +138,6 @@ module _ (i vs bs ss ns ms ps : List ℕ) {ps₀ vs₁ bs₁ ss₁ ns₁ ms₁ p
   built-finished e p d f =
       let b : held s₁ vs₁ bs₁ ss₁ ns₁ ms₁ ps₁ ≡ built i vs bs ss ns ms ps = d ∙ (λ j. addedAll (lines i) (held (e j .state) vs bs ss ns ms (p j))) in (
         f .1 ∙ ap finishColumn b,
-        ap (λ (z : Builder). z .lent) (whole whyFinish finished s₁ vs₁ bs₁ ss₁ ns₁ ms₁ ps₁ (finish-many (held s₁ vs₁ bs₁ ss₁ ns₁ ms₁ ps₁)) (f .0)) ∙ ap shelfLent b,
+        ap (λ (z : Builder). z .lent) (whole whyFinish finished s₁ vs₁ bs₁ ss₁ ns₁ ms₁ ps₁ (finish-many (held s₁ vs₁ bs₁ ss₁ ns₁ ms₁ ps₁)) (f .0))
+            ∙ ap shelfLent b,
       )

@@ -27,7 +27,8 @@ first-line (c ∷ []) h = go (eqb c 10)
 first-line (c ∷ d ∷ u) h = go (eqb c 10) (first-line (d ∷ u) (omega arith))
   where
     go : (t : Bool) → lines (d ∷ u) ≡ take (indexOf 10 (d ∷ u)) (d ∷ u) ∷ lines (drop (suc (indexOf 10 (d ∷ u))) (d ∷ u))
-        → pick t ([] ∷ lines (d ∷ u)) (onFirst c (lines (d ∷ u))) ≡ take (indexAfter t (indexOf 10 (d ∷ u))) (c ∷ d ∷ u) ∷ lines (drop (suc (indexAfter t (indexOf 10 (d ∷ u)))) (c ∷ d ∷ u))
+        → pick t ([] ∷ lines (d ∷ u)) (onFirst c (lines (d ∷ u))) ≡ take (indexAfter t (indexOf 10 (d ∷ u))) (c ∷ d ∷ u) ∷ lines
+        (drop (suc (indexAfter t (indexOf 10 (d ∷ u)))) (c ∷ d ∷ u))
     go true e = refl
     go false e = ap (onFirst c) e
 
@@ -42,7 +43,8 @@ drop-next s e r f g = go (ltb e (length s)) refl
         drop-of-length-le s k ∙ sym (ap (λ (k : ℕ). drop k s) (g l) ∙ drop-of-length-le s l)
 
 -- the line from `at` to e, and the lines after it
-pub line-first : (s : List ℕ) (at e : ℕ) → at < length s → e ≡ at + indexOf 10 (slice at (length s) s) → lines (drop at s) ≡ take (e - at) (drop at s) ∷ lines (drop (e + 1) s)
+pub line-first : (s : List ℕ) (at e : ℕ) → at < length s → e ≡ at + indexOf 10 (slice at (length s) s) → lines (drop at s) ≡ take (e - at) (drop at s)
+    ∷ lines (drop (e + 1) s)
 unfolding slice
 line-first s at e h p =
     let i = indexOf 10 (drop at s) in
@@ -54,7 +56,8 @@ line-first s at e h p =
     first-line (drop at s) m ∙ λ j. take (d j) (drop at s) ∷ lines (t j)
 
 -- the same with the next line's start
-pub line-next : (s : List ℕ) (at e r : ℕ) → at < length s → e ≡ at + indexOf 10 (slice at (length s) s) → ((e < length s) → r ≡ e + 1) → ((length s ≤ e) → r ≡ e)
+pub line-next : (s : List ℕ) (at e r : ℕ) → at < length s → e ≡ at + indexOf 10 (slice at (length s) s) → ((e < length s) → r ≡ e + 1)
+    → ((length s ≤ e) → r ≡ e)
     → lines (drop at s) ≡ take (e - at) (drop at s) ∷ lines (drop r s)
 line-next s at e r h p f g = line-first s at e h p ∙ ap (λ (l : List ℕ). take (e - at) (drop at s) ∷ lines l) (drop-next s e r f g)
 

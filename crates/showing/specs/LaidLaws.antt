@@ -90,9 +90,14 @@ unfolding putTable flat
 table-ends t k at [] r h j i = omega (arith, h j (omega arith))
 table-ends t k at (x ∷ xs) r h j i =
     rw length-append
-    (omega (arith, table-ends (set t k (block at (length x))) (suc k) (at + length x) xs (rw (length-set t k (block at (length x))) (omega arith)) step j (omega arith)))
+    (omega (
+      arith,
+      table-ends (set t k (block at (length x))) (suc k) (at + length x) xs (rw (length-set t k (block at (length x))) (omega arith))
+          step j (omega arith),
+    ))
   where
-    step : (j : ℕ) → j < suc k → getD (set t k (block at (length x))) j (block 0 0) .start + getD (set t k (block at (length x))) j (block 0 0) .len ≤ at + length x
+    step : (j : ℕ) → j < suc k → getD (set t k (block at (length x))) j (block 0 0) .start + getD (set t k (block at (length x))) j (block 0 0) .len
+        ≤ at + length x
     step j i =
         by-cases (ℕ-discrete j k)
         (λ e. rw (e, getD-set-same t k (block at (length x)) (block 0 0) (omega arith)) (omega arith))

@@ -46,7 +46,8 @@ rooms mapped l =
     }
 
 -- a room is the same over buffers of the same lengths
-pub row-room-same : (mapped : Bool) (l m : Lent) → length (l .views) ≡ length (m .views) → length (l .nulls) ≡ length (m .nulls) → rowRoom mapped l ≡ rowRoom mapped m
+pub row-room-same : (mapped : Bool) (l m : Lent) → length (l .views) ≡ length (m .views) → length (l .nulls) ≡ length (m .nulls) → rowRoom mapped l
+    ≡ rowRoom mapped m
 unfolding rowRoom
 row-room-same true l m e f = rw (e, f)
 row-room-same false l m e f = rw e

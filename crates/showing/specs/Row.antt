@@ -48,7 +48,8 @@ zeros-view = refl
 pub zero-row : (bs : List (List ℕ)) → Row bs (replicate viewSize 0) []
 zero-row bs = rw (← zeros-view, zero-view) (short-row bs [] (omega arith))
 
-pub long-row : (bs : List (List ℕ)) (x : List ℕ) (b o : ℕ) → shortMost < length x → Fits x b o → o + length x ≤ length (getD bs b []) → part bs b o (length x) ≡ x
+pub long-row : (bs : List (List ℕ)) (x : List ℕ) (b o : ℕ) → shortMost < length x → Fits x b o → o + length x ≤ length (getD bs b [])
+    → part bs b o (length x) ≡ x
     → Row bs (longView x b o) x
 unfolding shown
 long-row bs x b o h f r p =

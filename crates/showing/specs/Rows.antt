@@ -65,7 +65,8 @@ row-ext {bs} {cs} {v} {x} e r = by (isShort (length x)) refl
     by true t = row-any (leb-true (length x) shortMost t) r
     by false t =
         let h : shortMost < length x = leb-false (length x) shortMost t in
-        let p : part cs (blockOf v) (offsetOf v) (length x) ≡ part bs (blockOf v) (offsetOf v) (length x) = part-ext e (blockOf v) (offsetOf v) (length x) (r .reach h) in
+        let p : part cs (blockOf v) (offsetOf v) (length x) ≡ part bs (blockOf v) (offsetOf v) (length x) = part-ext e (blockOf v) (offsetOf v)
+        (length x) (r .reach h) in
         record {
           size = r .size;
           len = r .len;

@@ -66,7 +66,13 @@ module _ (d : List ℕ) (at : ℕ) (x : List ℕ) (fits : at + length x ≤ leng
 -- bytes stored at the end of a block that reaches so far are at its end
 pub open-paste : (d : List ℕ) (s n : ℕ) (x : List ℕ) → s + n + length x ≤ length d
     → take (n + length x) (drop s (paste d (s + n) x (length x))) ≡ take n (drop s d) ++ x
-open-paste d s n x h = rw (take-add n (length x) (drop s (paste d (s + n) x (length x))), drop-drop, paste-here d (s + n) x h, part-paste d (s + n) x h s n (omega arith))
+open-paste d s n x h = rw (
+  take-add n (length x) (drop s (paste d (s + n) x (length x))),
+  drop-drop,
+  paste-here d (s + n) x h,
+  part-paste d (s + n) x
+      h s n (omega arith),
+)
 
 module _ (l : Lent) (n : ℕ) where
   pub length-blocks : n ≤ length (l .table) → length (blocksOf l n) ≡ n

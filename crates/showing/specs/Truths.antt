@@ -103,7 +103,8 @@ module _ (l : Lent) (n : ℕ) (v : List ℕ) where
   reach-block s e = by (spotIn l n v 0) (stood (dataRoom l) n (blockAt l (blockOf v)) v 0) e
     where
       by : (z : Spot) → Stood (dataRoom l) n (blockAt l (blockOf v)) v 0 z → isInside (reachBy z) ≡ true
-          → (blockOf v < n) × ((blockAt l (blockOf v) .start + blockAt l (blockOf v) .len ≤ dataRoom l) × (offsetOf v + lengthOf v ≤ blockAt l (blockOf v) .len))
+          → (blockOf v < n) × ((blockAt l (blockOf v) .start + blockAt l (blockOf v) .len ≤ dataRoom l)
+          × (offsetOf v + lengthOf v ≤ blockAt l (blockOf v) .len))
       by (spot.View o k) (in-views f) e = absurd (let g = leb-false (lengthOf v) shortMost s in omega arith)
       by (spot.Data o k) (in-data h f g i) e = (f, (g, i))
       by spot.NoBlock (no-block h f) e = absurd (true≢false (sym e))
@@ -135,7 +136,8 @@ module _ (l : Lent) (n : ℕ) (v : List ℕ) (size : length v ≡ viewSize) (rea
         reach = λ k. absurd (omega arith);
       }
 
-  long-shows : shortMost < lengthOf v → honest v (shown (blocksOf l n) v) ≡ true → Row (blocksOf l n) v (part (blocksOf l n) (blockOf v) (offsetOf v) (lengthOf v))
+  long-shows : shortMost < lengthOf v → honest v (shown (blocksOf l n) v) ≡ true → Row (blocksOf l n) v (part (blocksOf l n) (blockOf v) (offsetOf v)
+      (lengthOf v))
   unfolding shown honest
   long-shows h e =
       let x : List ℕ = part (blocksOf l n) (blockOf v) (offsetOf v) (lengthOf v) in
@@ -159,7 +161,8 @@ module _ (l : Lent) (n : ℕ) (v : List ℕ) (size : length v ≡ viewSize) (rea
   unfolding shown
   honest-row e = by (isShort (lengthOf v)) refl
     where
-      by : (t : Bool) → isShort (lengthOf v) ≡ t → Row (blocksOf l n) v (pick t (take (lengthOf v) (bodyOf v)) (part (blocksOf l n) (blockOf v) (offsetOf v) (lengthOf v)))
+      by : (t : Bool) → isShort (lengthOf v) ≡ t → Row (blocksOf l n) v (pick t (take (lengthOf v) (bodyOf v)) (part (blocksOf l n) (blockOf v)
+          (offsetOf v) (lengthOf v)))
       by true t = short-shows (leb-true (lengthOf v) shortMost t) e
       by false t = long-shows (leb-false (lengthOf v) shortMost t) e
 

@@ -71,7 +71,8 @@ pub too-few : (n : ℕ) (r : Range) (s : List ℕ) (i : ℕ) → i < length s �
 unfolding tailsOf ledBy
 too-few n r s i g m h = rw (fits-none (r ∷ nexts (n - 2)) (drop (i + 1) s) (simp (length-drop, nexts-length (n - 2)) (omega arith)))
 
-fits-one : (r : Range) (rs : List Range) (s : List ℕ) (i j : ℕ) → i < length s → j ≡ suc i → fits (r ∷ rs) (drop i s) ≡ within (getD s i 0) r && fits rs (drop j s)
+fits-one : (r : Range) (rs : List Range) (s : List ℕ) (i j : ℕ) → i < length s → j ≡ suc i → fits (r ∷ rs) (drop i s) ≡ within (getD s i 0) r && fits
+    rs (drop j s)
 unfolding fits
 fits-one r rs s i j h e = rw (drop-cons s i 0 h, e)
 
@@ -89,7 +90,8 @@ and-true true = refl
 and-true false = refl
 
 -- one byte more goes on
-pub nexts-on : (s : List ℕ) (k e : ℕ) → k < e → e ≤ length s → fits (nexts (e - k)) (drop k s) ≡ within (getD s k 0) next && fits (nexts (e - (k + 1))) (drop (k + 1) s)
+pub nexts-on : (s : List ℕ) (k e : ℕ) → k < e → e ≤ length s → fits (nexts (e - k)) (drop k s) ≡ within (getD s k 0) next && fits
+    (nexts (e - (k + 1))) (drop (k + 1) s)
 unfolding nexts
 nexts-on s k e h l =
     let one : e - k ≡ suc (e - (k + 1)) = omega arith in
@@ -187,7 +189,8 @@ module _ (s : List ℕ) (i j : ℕ) (hb : Bytes s) where
   -- where no high bit is set in either word, each byte is ASCII
   pub both-ascii : (n : ℕ) → bitAnd (bitOr (wordAt s i n) (wordAt s j n)) (mask n) ≡ 0 → (k : ℕ) → k < n → (getD s (i + k) 0 ≤ 127) × (getD s (j + k) 0 ≤ 127)
   both-ascii zero e k h = absurd (omega arith)
-  both-ascii (suc n) e k h = below-more (λ (q : ℕ). (getD s (i + q) 0 ≤ 127) × (getD s (j + q) 0 ≤ 127)) n (both-ascii n (omega (arith, split n))) here k (omega arith)
+  both-ascii (suc n) e k h = below-more (λ (q : ℕ). (getD s (i + q) 0 ≤ 127) × (getD s (j + q) 0 ≤ 127)) n (both-ascii n (omega (arith, split n)))
+      here k (omega arith)
     where
       or-here : bitOr (getD s (i + n) 0) (getD s (j + n) 0) ≤ 127
       or-here =

@@ -48,9 +48,11 @@ conts-fit (r ∷ rs) (b ∷ t) zero c f h =
     let y = leb-true b (r .hi) (q .1) in
     (omega arith, omega arith)
 conts-fit (r ∷ rs) (b ∷ t) (suc i) c f h =
-    conts-fit rs t i (and-both (leb 0x80 (r .lo) && leb (r .hi) 0xBF) (conts rs) c .1) (and-both (leb (r .lo) b && leb b (r .hi)) (fits rs t) f .1) (omega arith)
+    conts-fit rs t i (and-both (leb 0x80 (r .lo) && leb (r .hi) 0xBF) (conts rs) c .1) (and-both (leb (r .lo) b && leb b (r .hi)) (fits rs t) f .1)
+    (omega arith)
 
-row-fit : (row : List Range) (t : List ℕ) (i : ℕ) → conts (drop 1 row) ≡ true → fits row t ≡ true → 0 < i → i < length row → (0x80 ≤ getD t i 0) × (getD t i 0 ≤ 0xBF)
+row-fit : (row : List Range) (t : List ℕ) (i : ℕ) → conts (drop 1 row) ≡ true → fits row t ≡ true → 0 < i → i < length row → (0x80 ≤ getD t i 0)
+    × (getD t i 0 ≤ 0xBF)
 unfolding fits
 row-fit [] t i c f p h = absurd (not-suc-le-zero h)
 row-fit (r ∷ rs) [] i c f p h = absurd (true≢false (sym f))
@@ -72,7 +74,8 @@ formed-split (more k t s l n e w) o b = by o b (leb (length t) o) refl (λ m c. 
         let c : Begins (t ++ s) (length t + (o - length t)) = subst (Begins (t ++ s)) q b in
         let d : Begins s (o - length t) = rw (getD-append-add t s (o - length t) 0) at c in
         let r = later (o - length t) d in
-        let x : WellFormed (take (length t + (o - length t)) (t ++ s)) = rw (take-append-add t s (o - length t)) (more k t (take (o - length t) s) l n e (r .0)) in
+        let x : WellFormed (take (length t + (o - length t)) (t ++ s)) = rw (take-append-add t s (o - length t)) (more k t (take (o - length t) s) l n
+        e (r .0)) in
         let y : WellFormed (drop (length t + (o - length t)) (t ++ s)) = rw (drop-append-add t s (o - length t)) (r .1) in
         subst (Halves (t ++ s)) (sym q) (x, y)
     by zero b false h later = (none, more k t s l n e w)

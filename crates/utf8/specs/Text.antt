@@ -60,7 +60,8 @@ above-none h b ((r ∷ rs) ∷ rows) e l =
     let p = and-both (ltb h (r .lo)) (above h rows) e in
     rw (under b r (omega (arith, ltb-true h (r .lo) (p .0)))) (above-none h b rows (p .1) l)
 
-above-at : (h : ℕ) (rows : List (List Range)) (k : ℕ) (r : Range) (rs : List Range) → above h rows ≡ true → k < length rows → getD rows k [] ≡ r ∷ rs → h < r .lo
+above-at : (h : ℕ) (rows : List (List Range)) (k : ℕ) (r : Range) (rs : List Range) → above h rows ≡ true → k < length rows → getD rows k [] ≡ r ∷ rs
+    → h < r .lo
 above-at h [] k r rs e l q = absurd (omega arith)
 above-at h ([] ∷ rows) k r rs e l q = absurd (true≢false (sym e))
 above-at h ((a ∷ ts) ∷ rows) zero r rs e l q =
@@ -71,7 +72,8 @@ above-at h ((a ∷ ts) ∷ rows) (suc k) r rs e l q =
     let p = and-both (ltb h (a .lo)) (above h rows) e in
     above-at h rows k r rs (p .1) (omega arith) q
 
-led-one : (rows : List (List Range)) (k b : ℕ) (r : Range) (rs : List Range) → ascending rows ≡ true → k < length rows → getD rows k [] ≡ r ∷ rs → within b r ≡ true → led b rows ≡ rs ∷ []
+led-one : (rows : List (List Range)) (k b : ℕ) (r : Range) (rs : List Range) → ascending rows ≡ true → k < length rows → getD rows k [] ≡ r ∷ rs
+    → within b r ≡ true → led b rows ≡ rs ∷ []
 unfolding led
 led-one [] k b r rs e l q w = absurd (omega arith)
 led-one ([] ∷ rows) k b r rs e l q w = absurd (true≢false (sym e))
@@ -125,7 +127,8 @@ fits-length rs s e = by (leb (length rs) (length s)) refl
 
 -- a sequence at the front is a row of the table, and back
 
-pub row-front : (k b : ℕ) (t s : List ℕ) (row : List Range) → k < length table → rowAt k ≡ row → length (b ∷ t) ≡ length row → fits row (b ∷ t) ≡ true → front (b ∷ (t ++ s)) ≡ suc (length t)
+pub row-front : (k b : ℕ) (t s : List ℕ) (row : List Range) → k < length table → rowAt k ≡ row → length (b ∷ t) ≡ length row → fits row (b ∷ t) ≡ true
+    → front (b ∷ (t ++ s)) ≡ suc (length t)
 unfolding front fits ledBy
 row-front k b t s [] l q n e = absurd (omega arith)
 row-front k b t s (r ∷ rs) l q n e =
@@ -216,7 +219,8 @@ ended-next n ih (b ∷ s) h = by (front (b ∷ s)) refl
         let on : walk (b ∷ s) ≡ suc m + walk (drop m s) = judge-one b m s q ∙ ap suc (bad-skip m s (omega arith)) ∙ omega arith in
         let rest = ih (drop m s) (omega arith) in
         let far = rest .in-text in
-        let seam : take (suc m + walk (drop m s)) (b ∷ s) ≡ take (suc m) (b ∷ s) ++ take (walk (drop m s)) (drop m s) = take-add (suc m) (walk (drop m s)) (b ∷ s) in
+        let seam : take (suc m + walk (drop m s)) (b ∷ s) ≡ take (suc m) (b ∷ s) ++ take (walk (drop m s)) (drop m s) = take-add (suc m)
+        (walk (drop m s)) (b ∷ s) in
         let after : drop (walk (drop m s)) (drop m s) ≡ drop (suc m + walk (drop m s)) (b ∷ s) = drop-drop (walk (drop m s)) (suc m) (b ∷ s) in
         record {
           in-text = omega arith;

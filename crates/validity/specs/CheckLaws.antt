@@ -48,8 +48,10 @@ module _ (views bytes starts lens nulls : List ℕ) (c : Column) where
 
       pub invalid-block : not (allInData (bare [] bytes starts lens) (c .blocks)) ≡ true → Refused Range ≡ whyInvalid whole c
       invalid-block h =
-          all-true (Refused Range) (refuse-yes Range (not (allInData whole (c .blocks))) Accepted (Refused Range) (rw (all-bare views bytes starts lens nulls (c .blocks)) h) refl)
+          all-true (Refused Range) (refuse-yes Range (not (allInData whole (c .blocks))) Accepted (Refused Range)
+          (rw (all-bare views bytes starts lens nulls (c .blocks)) h) refl)
 
       pub valid : not (allInData (bare [] bytes starts lens) (c .blocks)) ≡ false → Accepted ≡ whyInvalid whole c
       valid h =
-          all-true Accepted (refuse-no Range (not (allInData whole (c .blocks))) Accepted Accepted (rw (all-bare views bytes starts lens nulls (c .blocks)) h) refl)
+          all-true Accepted (refuse-no Range (not (allInData whole (c .blocks))) Accepted Accepted
+          (rw (all-bare views bytes starts lens nulls (c .blocks)) h) refl)

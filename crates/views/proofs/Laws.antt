@@ -59,7 +59,12 @@ pad-cat (suc n) m (a ∷ x) = rw (suc-add n m, pad-cat n m x)
 two-stores : (l : List ℕ) (o x y : ℕ) → o + 16 ≤ length l → putWord (putWord l o x 8) (o + 8) y 8 ≡ paste l o (enc 8 x ++ enc 8 y) 16
 two-stores l o x y h =
     let n : length (paste l o (enc 8 x) 8) ≡ length l = length-paste l o (enc 8 x) 8 (omega arith) (omega (arith, length-enc 8 x)) in
-    rw (put-enc l o x 8 (omega arith), put-enc (paste l o (enc 8 x) 8) (o + 8) y 8 (omega arith), paste-two l (enc 8 x) (enc 8 y) o 8 8 (length-enc 8 x) (length-enc 8 y) (omega arith))
+    rw (
+      put-enc l o x 8 (omega arith),
+      put-enc (paste l o (enc 8 x) 8) (o + 8) y 8 (omega arith),
+      paste-two l (enc 8 x) (enc 8 y) o 8 8
+          (length-enc 8 x) (length-enc 8 y) (omega arith),
+    )
 
 -- the word of a length and of the value's first four bytes
 first-word : (v : List ℕ) (x : ℕ) → Bytes v → length v < 4294967296 → x ≡ length v + 4294967296 * wordAt v 0 4 → enc 8 x ≡ enc 4 (length v) ++ pad 4 v
@@ -69,9 +74,17 @@ pub two-words : (l v : List ℕ) (o x y : ℕ) → Bytes v → o + 16 ≤ length
     → putWord (putWord l o x 8) (o + 8) y 8 ≡ paste l o (shortView v) 16
 unfolding shortView
 two-words l v o x y hb h hv ex ey =
-    rw (two-stores l o x y h, first-word v x hb (omega arith) ex, ey, enc-pad v 4 8 hb, append-assoc (enc 4 (length v)) (pad 4 v) (pad 8 (drop 4 v)), ← pad-cat 4 8 v)
+    rw (
+      two-stores l o x y h,
+      first-word v x hb (omega arith) ex,
+      ey,
+      enc-pad v 4 8 hb,
+      append-assoc (enc 4 (length v)) (pad 4 v) (pad 8 (drop 4 v)),
+      ← pad-cat 4 8 v,
+    )
 
-pub long-words : (l v : List ℕ) (o x y k f : ℕ) → Bytes v → o + 16 ≤ length l → length v < 4294967296 → k < 4294967296 → x ≡ length v + 4294967296 * wordAt v 0 4 → y ≡ k + 4294967296 * f
+pub long-words : (l v : List ℕ) (o x y k f : ℕ) → Bytes v → o + 16 ≤ length l → length v < 4294967296 → k < 4294967296
+    → x ≡ length v + 4294967296 * wordAt v 0 4 → y ≡ k + 4294967296 * f
     → putWord (putWord l o x 8) (o + 8) y 8 ≡ paste l o (longView v k f) 16
 unfolding longView
 long-words l v o x y k f hb h hv hk ex ey =

@@ -39,7 +39,11 @@ module _ (d s : List ℕ) (at n : ℕ) where
   pub part-before : (k m : ℕ) → k + m ≤ at → at ≤ length d → take m (drop k (paste d at s n)) ≡ take m (drop k d)
   part-before k m h g =
       let same : take (k + m) (paste d at s n) ≡ take (k + m) d =
-      rw (append-assoc (take at d) (take n s) (drop (at + n) d), take-append-le (k + m) (take at d) (take n s ++ drop (at + n) d) (rw (length-take-le at d g) h))
+      rw (
+        append-assoc (take at d) (take n s) (drop (at + n) d),
+        take-append-le (k + m) (take at d) (take n s ++ drop (at + n) d)
+            (rw (length-take-le at d g) h),
+      )
       (take-take (k + m) at d h) in
       sym (drop-take k m (paste d at s n)) ∙ ap (drop k) same ∙ drop-take k m d
 

@@ -87,7 +87,8 @@ module _ (rs : List Row) where
   items-whole = go (leb (length rs) 20) refl
     where
       go : (t : Bool) → leb (length rs) 20 ≡ t
-          → itemLines rs 0 (itemCount (length rs)) ≡ pick t (rowLines rs) (rowLines (take 10 rs) ++ (gapLine (length rs - 20) ++ rowLines (take 10 (drop (length rs - 10) rs))))
+          → itemLines rs 0 (itemCount (length rs)) ≡ pick t (rowLines rs) (rowLines (take 10 rs) ++ (gapLine (length rs - 20) ++ rowLines
+          (take 10 (drop (length rs - 10) rs))))
       go true e =
           let h = leb-true (length rs) 20 e in
           ap (itemLines rs 0) (sym (count-few (length rs) h)) ∙ (few 0 (length rs) h ∙ (run-is rs 0 (length rs) (omega arith) ∙ ap rowLines (take-length rs)))
@@ -120,7 +121,8 @@ module _ (l : Lent) (c : Column) where
   unfolding bitOf whyRow whyRun valueAt whyValue refuse
   no-row r h = rw (lt-ltb (c .rows) (r + 1) (omega arith), le-leb (c .rows) r h) (go (fits l c))
     where
-      go : (t : Bool) → nothing ≡ row (isValid (bitWhen (refuse Fit (not t) (Refused refusal.Row)) (validAt l c r))) (ifAccepted (refuse Fit (not t) (Refused refusal.Row)) (shownAt l c r) [])
+      go : (t : Bool) → nothing ≡ row (isValid (bitWhen (refuse Fit (not t) (Refused refusal.Row)) (validAt l c r)))
+          (ifAccepted (refuse Fit (not t) (Refused refusal.Row)) (shownAt l c r) [])
       go true = refl
       go false = refl
 
@@ -139,7 +141,8 @@ module _ (l : Lent) (c : Column) where
   pub column-whole : opening ++ (itemLines (rowsOf l c) 0 (itemCount (c .rows)) ++ closingOf l c) ≡ listedColumn l c
   unfolding listedColumn
   column-whole =
-      let e : itemLines (rowsOf l c) 0 (itemCount (c .rows)) ≡ body (rowsOf l c) = ap (λ (n : ℕ). itemLines (rowsOf l c) 0 (itemCount n)) (sym length-rows) ∙ items-whole (rowsOf l c) in
+      let e : itemLines (rowsOf l c) 0 (itemCount (c .rows)) ≡ body (rowsOf l c) = ap (λ (n : ℕ). itemLines (rowsOf l c) 0 (itemCount n))
+      (sym length-rows) ∙ items-whole (rowsOf l c) in
       ap (λ (z : List ℕ). opening ++ (z ++ closingOf l c)) e
 
 -- A column that shows rows, and of which the calls tell their numbers. `answering` has it of the column of every accepted input.
@@ -151,7 +154,8 @@ pub record Shows (l : Lent) (c : Column) (rs : List Row) : Type 0 where
   pub blocks : c .blocks ≡ blocksIn rs
 
 -- a column that shows the lines' rows is listed as the answer to them
-pub answered : (l : Lent) (c : Column) (s : List ℕ) → length s ≤ 16384 → firstBad 0 (lines s) ≡ 0 → Shows l c (map rowOf (lines s)) → listedColumn l c ≡ answer s
+pub answered : (l : Lent) (c : Column) (s : List ℕ) → length s ≤ 16384 → firstBad 0 (lines s) ≡ 0 → Shows l c (map rowOf (lines s)) → listedColumn l c
+    ≡ answer s
 unfolding answer answerLines listed listedColumn
 answered l c s h g w =
     let n : c .rows ≡ length (map rowOf (lines s)) = sym (length-rows l c) ∙ ap length (w .rows) in

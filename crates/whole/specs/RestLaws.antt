@@ -88,7 +88,8 @@ module _ (l : Lent) (c : Column) where
     unfolding linesFrom itemLines
     line-next =
         let e : itemCount (c .rows) - k ≡ suc (itemCount (c .rows) - suc k) = omega arith in
-        rw (e, length-rows l c) (sym (append-assoc (itemLine (rowsOf l c) (itemAt (c .rows) k)) (itemLines (rowsOf l c) (suc k) (itemCount (c .rows) - suc k)) (closingOf l c)))
+        rw (e, length-rows l c) (sym (append-assoc (itemLine (rowsOf l c) (itemAt (c .rows) k)) (itemLines (rowsOf l c) (suc k)
+        (itemCount (c .rows) - suc k)) (closingOf l c)))
 
     pub rest-gap : (n : ℕ) → item.Gap n ≡ itemAt (c .rows) k → gapLine n ++ linesFrom l c (k + 1) ≡ linesFrom l c k
     rest-gap n e = rw (add-one k) (ap (λ (z : Item). itemLine (rowsOf l c) z ++ linesFrom l c (suc k)) e ∙ line-next)
@@ -117,11 +118,18 @@ module _ (l : Lent) (c : Column) where
     rest-close at g = rw (lt-ltb k (itemCount (c .rows)) h, add-one k, text-none (itemValue l c (itemAt (c .rows) k)) at g)
 
     -- or a part of it is written
-    pub wrote-part : (x : List ℕ) (at to : ℕ) {out : List ℕ} {n : ℕ} → x ≡ itemValue l c (itemAt (c .rows) k) → at < to → to ≤ length x → Rest out n (textFrom x to) (textFrom x at)
+    pub wrote-part : (x : List ℕ) (at to : ℕ) {out : List ℕ} {n : ℕ} → x ≡ itemValue l c (itemAt (c .rows) k) → at < to → to ≤ length x
+        → Rest out n (textFrom x to) (textFrom x at)
         → Wrote l c (partsFrom l c k at) out (piece (Part k to) n)
     unfolding partsFrom
     wrote-part x at to {out} {n} e f g p =
-        record { text = rw (lt-ltb k (itemCount (c .rows)) h, ← e) text; low = p .low; counts = p .counts; moves = omega (arith, p .counts, some, text-less x at to f g) }
+        record {
+          text = rw (lt-ltb k (itemCount (c .rows)) h, ← e) text;
+          low = p .low;
+          counts = p .counts;
+          moves = omega
+              (arith, p .counts, some, text-less x at to f g);
+        }
       where
         later : List ℕ
         later = rowClose ++ linesFrom l c (suc k)

@@ -134,17 +134,27 @@ put-word l s i p n hb h g =
     rw (put-enc l i (wordAt s p n) n h, enc-word s p n hb g, take-take n n (drop p s) (omega arith))
 
 -- a paste in two parts
-pub paste-add : (d : List ℕ) (at : ℕ) (s : List ℕ) (m n : ℕ) → at + (m + n) ≤ length d → m + n ≤ length s → paste (paste d at s m) (at + m) (drop m s) n ≡ paste d at s (m + n)
+pub paste-add : (d : List ℕ) (at : ℕ) (s : List ℕ) (m n : ℕ) → at + (m + n) ≤ length d → m + n ≤ length s → paste (paste d at s m) (at + m) (drop m s)
+    n ≡ paste d at s (m + n)
 paste-add d at s m zero h g = sym (paste-zero (paste d at s m) (at + m) (drop m s)) ∙ ap (paste d at s) (sym (add-zero m))
 paste-add d at s m (suc n) h g =
     let more : set (paste (paste d at s m) (at + m) (drop m s) n) (at + m + n) (getD (drop m s) n 0) ≡ paste (paste d at s m) (at + m) (drop m s) (suc n) =
-    paste-suc (paste d at s m) (at + m) (drop m s) n 0 (rw (length-paste d at s m (omega arith) (omega arith)) (omega arith)) (simp length-drop (omega arith)) in
-    sym more ∙ rw (paste-add d at s m n (omega arith) (omega arith), getD-drop m s n 0, add-assoc at m n, add-suc m n) (paste-suc d at s (m + n) 0 (omega arith) (omega arith))
+    paste-suc (paste d at s m) (at + m) (drop m s) n 0 (rw (length-paste d at s m (omega arith) (omega arith)) (omega arith))
+    (simp length-drop (omega arith)) in
+    sym more ∙ rw (paste-add d at s m n (omega arith) (omega arith), getD-drop m s n 0, add-assoc at m n, add-suc m n) (paste-suc d at s (m + n) 0
+    (omega arith) (omega arith))
 
 -- sixteen bytes by two words
 pub put-two : (d s : List ℕ) (o p x y : ℕ) → Bytes s → o + 16 ≤ length d → p + 16 ≤ length s → x ≡ wordAt s p 8 → y ≡ wordAt s (p + 8) 8
     → putWord (putWord d o x 8) (o + 8) y 8 ≡ paste d o (drop p s) 16
 put-two d s o p x y hb h g ex ey =
     let l : length (putWord d o (wordAt s p 8) 8) ≡ length d = length-put d o (wordAt s p 8) 8 in
-    rw (ex, ey, put-word (putWord d o (wordAt s p 8) 8) s (o + 8) (p + 8) 8 hb (omega arith) (omega arith), put-word d s o p 8 hb (omega arith) (omega arith), ← drop-drop 8 p s)
+    rw (
+      ex,
+      ey,
+      put-word (putWord d o (wordAt s p 8) 8) s (o + 8) (p + 8) 8 hb (omega arith) (omega arith),
+      put-word d s o p 8 hb (omega arith)
+          (omega arith),
+      ← drop-drop 8 p s,
+    )
     (paste-add d o (drop p s) 8 8 (omega arith) (simp length-drop (omega arith)))

@@ -25,7 +25,8 @@ unfolding wordAt
 le4 l i = rw (add-zero i) (omega arith)
 
 pub le8 : (l : List ℕ) (i : ℕ)
-    → getD l i 0 + 256 * getD l (i + 1) 0 + 65536 * getD l (i + 2) 0 + 16777216 * getD l (i + 3) 0 + 4294967296 * getD l (i + 4) 0 + 1099511627776 * getD l (i + 5) 0 + 281474976710656 * getD l (i + 6) 0 + 72057594037927936 * getD l (i + 7) 0 ≡ wordAt l i 8
+    → getD l i 0 + 256 * getD l (i + 1) 0 + 65536 * getD l (i + 2) 0 + 16777216 * getD l (i + 3) 0 + 4294967296 * getD l (i + 4) 0 + 1099511627776
+    * getD l (i + 5) 0 + 281474976710656 * getD l (i + 6) 0 + 72057594037927936 * getD l (i + 7) 0 ≡ wordAt l i 8
 unfolding wordAt
 le8 l i = rw (add-zero i) (omega arith)
 
@@ -73,7 +74,8 @@ word-one l i = rw (add-zero i) (omega arith)
 -- byte j of a number read is the byte read there
 pub word-digit : (l : List ℕ) (i j m : ℕ) → Bytes l → wordAt l i (j + suc m) / 2 ^ (8 * j) % 256 ≡ getD l (i + j) 0
 word-digit l i j m hb =
-    let cut : wordAt l (i + j) (suc m) ≡ getD l (i + j) 0 + 256 * wordAt l (i + j + 1) m = rw (← word-one l (i + j)) (rw (one-add m) at (word-split l (i + j) 1 m)) in
+    let cut : wordAt l (i + j) (suc m) ≡ getD l (i + j) 0 + 256 * wordAt l (i + j + 1) m = rw (← word-one l (i + j))
+    (rw (one-add m) at (word-split l (i + j) 1 m)) in
     rw (
       word-split l i j (suc m),
       add-comm (wordAt l i j) (2 ^ (8 * j) * wordAt l (i + j) (suc m)),
@@ -91,7 +93,8 @@ word-past l i (suc n) h =
     rw (z, word-past l i n h) (omega (arith, zero-mul (2 ^ (8 * n))))
 
 -- the four bytes that end the list, moved down, are those from i on
-pub word-tail : (l : List ℕ) (i : ℕ) → Bytes l → 4 ≤ length l → i ≤ length l → length l ≤ i + 4 → wordAt l (length l - 4) 4 / 2 ^ (8 * (i + 4 - length l)) ≡ wordAt l i 4
+pub word-tail : (l : List ℕ) (i : ℕ) → Bytes l → 4 ≤ length l → i ≤ length l → length l ≤ i + 4 → wordAt l (length l - 4) 4 / 2 ^
+    (8 * (i + 4 - length l)) ≡ wordAt l i 4
 word-tail l i hb h k m = by (i + 4 - length l) (length l - i) (length l - 4) (omega arith) (omega arith) (omega arith)
   where
     by : (d e b : ℕ) → d + e ≡ 4 → b + d ≡ i → i + e ≡ length l → wordAt l b 4 / 2 ^ (8 * d) ≡ wordAt l i 4

@@ -32,38 +32,52 @@ returns c = does-not-block _ _ _ _ _ _ _ _ _ (c .before .before .why-block .ensu
 
 put-record-requires : tie.Need-put-record-requires
 put-record-requires c κs =
-    let a = c .before .before .before .before .before .before .before .before .before .before .before .before .before .before .before .args in
-    let j = blocked (a .s) (now (a .views)) (now (a .bytes)) (now (a .starts)) (now (a .lens)) (now (a .nulls)) (now (a .places)) (now (a .x)) (ap isAccepted (sym (c .before .before .before .before .why-block .ensures)) ∙ (sym (c .before .before .before .is-accepted .ensures) ∙ not-false _ (c .before .before .if1 .left))) in
+    let b15 = c .before .before .before .before .before .before .before .before .before .before .before .before .before .before .before in
+    let a = b15 .args in
+    let j = blocked (a .s) (now (a .views)) (now (a .bytes)) (now (a .starts)) (now (a .lens)) (now (a .nulls)) (now (a .places)) (now (a .x))
+    (ap isAccepted (sym (c .before .before .before .before .why-block .ensures)) ∙ (sym (c .before .before .before .is-accepted .ensures)
+    ∙ not-false _ (c .before .before .if1 .left))) in
     let f = j .fit in
     (f .starts, f .lens)
 
 close-requires : tie.Need-close-requires
 close-requires c κs =
-    let a = c .before .before .before .before .before .before .before .before .before .before .before .before .before .before .before .before .before .before .before .before .args in
-    let j = blocked (a .s) (now (a .views)) (now (a .bytes)) (now (a .starts)) (now (a .lens)) (now (a .nulls)) (now (a .places)) (now (a .x)) (ap isAccepted (sym (c .before .before .before .before .before .before .before .before .before .why-block .ensures)) ∙ (sym (c .before .before .before .before .before .before .before .before .is-accepted .ensures) ∙ not-false _ (c .before .before .before .before .before .before .before .if1 .left))) in
+    let b8 = c .before .before .before .before .before .before .before .before in let b9 = b8 .before in
+    let b20 = b9 .before .before .before .before .before .before .before .before .before .before .before in
+    let a = b20 .args in
+    let j = blocked (a .s) (now (a .views)) (now (a .bytes)) (now (a .starts)) (now (a .lens)) (now (a .nulls)) (now (a .places)) (now (a .x))
+    (ap isAccepted (sym (b9 .why-block .ensures)) ∙ (sym (b8 .is-accepted .ensures)
+    ∙ not-false _ (c .before .before .before .before .before .before .before .if1 .left))) in
     let f = j .fit in
     (omega (arith, f .blocks, block-limit-small), omega (arith, f .small, byte-limit-small))
 
 put-block-requires : tie.Need-put-block-requires
 unfolding closed
 put-block-requires c κs =
-    let a = c .before .before .before .before .before .before .before .before .before .before .before .before .before .before .before .before .before .before .before .before .before .before .before .before .args in
-    let j = blocked (a .s) (now (a .views)) (now (a .bytes)) (now (a .starts)) (now (a .lens)) (now (a .nulls)) (now (a .places)) (now (a .x)) (ap isAccepted (sym (c .before .before .before .before .before .before .before .before .before .before .before .before .before .why-block .ensures)) ∙ (sym (c .before .before .before .before .before .before .before .before .before .before .before .before .is-accepted .ensures) ∙ not-false _ (c .before .before .before .before .before .before .before .before .before .before .before .if1 .left))) in
+    let b8 = c .before .before .before .before .before .before .before .before in let b11 = b8 .before .before .before in let b12 = b11 .before in
+    let b13 = b12 .before in let b24 = b13 .before .before .before .before .before .before .before .before .before .before .before in
+    let a = b24 .args in
+    let j = blocked (a .s) (now (a .views)) (now (a .bytes)) (now (a .starts)) (now (a .lens)) (now (a .nulls)) (now (a .places)) (now (a .x))
+    (ap isAccepted (sym (b13 .why-block .ensures)) ∙ (sym (b12 .is-accepted .ensures) ∙ not-false _ (b11 .if1 .left))) in
     let f = j .fit in
     let b = ap (λ (z : State). z .blocks) (c .before .before .before .close .ensures) in
     let d = ap (λ (z : State). z .base) (c .before .before .before .close .ensures) in
-    let e : length (c .before .before .before .before .before .before .before .before .put-record .last .1 .0) ≡ length (now (a .starts)) = search needs in
-    let g : length (c .before .before .before .before .before .before .before .before .put-record .last .1 .1 .0) ≡ length (now (a .lens)) = search needs in
+    let e : length (b8 .put-record .last .1 .0) ≡ length (now (a .starts)) = search needs in
+    let g : length (b8 .put-record .last .1 .1 .0) ≡ length (now (a .lens)) = search needs in
     (omega (arith, d, j .inside), omega (arith, b, e, j .starts), omega (arith, b, g, j .lens))
 
 block-more-requires : tie.Need-block-more-requires
 unfolding closed
 block-more-requires c κs =
-    let a = c .before .before .before .before .before .before .before .before .before .before .before .before .before .before .before .before .before .before .before .before .before .before .before .before .before .before .before .before .before .before .before .args in
-    let j = blocked (a .s) (now (a .views)) (now (a .bytes)) (now (a .starts)) (now (a .lens)) (now (a .nulls)) (now (a .places)) (now (a .x)) (ap isAccepted (sym (c .before .before .before .before .before .before .before .before .before .before .before .before .before .before .before .before .before .before .before .before .why-block .ensures)) ∙ (sym (c .before .before .before .before .before .before .before .before .before .before .before .before .before .before .before .before .before .before .before .is-accepted .ensures) ∙ not-false _ (c .before .before .before .before .before .before .before .before .before .before .before .before .before .before .before .before .before .before .if1 .left))) in
+    let b10 = c .before .before .before .before .before .before .before .before .before .before in
+    let b18 = b10 .before .before .before .before .before .before .before .before in let b19 = b18 .before in let b20 = b19 .before in
+    let b31 = b20 .before .before .before .before .before .before .before .before .before .before .before in
+    let a = b31 .args in
+    let j = blocked (a .s) (now (a .views)) (now (a .bytes)) (now (a .starts)) (now (a .lens)) (now (a .nulls)) (now (a .places)) (now (a .x))
+    (ap isAccepted (sym (b20 .why-block .ensures)) ∙ (sym (b19 .is-accepted .ensures) ∙ not-false _ (b18 .if1 .left))) in
     let f = j .fit in
-    let b = ap (λ (z : State). z .blocks) (c .before .before .before .before .before .before .before .before .before .before .close .ensures) in
-    let d = ap (λ (z : State). z .base) (c .before .before .before .before .before .before .before .before .before .before .close .ensures) in
+    let b = ap (λ (z : State). z .blocks) (b10 .close .ensures) in
+    let d = ap (λ (z : State). z .base) (b10 .close .ensures) in
     (omega (arith, b, j .limit, block-limit-small), omega (arith, d, j .small, byte-limit-small))
 
 same-length-4 : tie.Need-same-length-4
@@ -76,7 +90,13 @@ same-length-6 : tie.Need-same-length-6
 same-length-6 c = search needs
 
 returns-2 : tie.Need-returns-2
-returns-2 c = does-block _ _ _ _ _ _ _ _ _ _ (c .before .before .before .before .before .before .before .before .before .before .before .before .before .before .before .before .before .before .before .before .before .why-block .ensures) (sym (c .before .before .before .before .before .before .before .before .before .before .before .before .before .before .before .before .before .before .before .before .is-accepted .ensures) ∙ not-false _ (c .before .before .before .before .before .before .before .before .before .before .before .before .before .before .before .before .before .before .before .if1 .left)) (c .before .before .before .before .before .before .before .before .before .before .before .close .ensures) (c .before .before .before .before .before .before .before .before .before .before .before .before .before .before .before .before .put-record .ensures .0) (c .before .before .before .before .before .before .before .before .before .before .before .before .before .before .before .before .put-record .ensures .1) (c .block-more .ensures) (c .before .before .before .before .before .before .before .put-block .ensures .0) (c .before .before .before .before .before .before .before .put-block .ensures .1) (c .before .before .before .before .before .before .before .put-block .ensures .2)
+returns-2 c =
+    let b7 = c .before .before .before .before .before .before .before in let b11 = b7 .before .before .before .before in
+    let b16 = b11 .before .before .before .before .before in let b19 = b16 .before .before .before in let b20 = b19 .before in
+    let b21 = b20 .before in
+    does-block _ _ _ _ _ _ _ _ _ _ (b21 .why-block .ensures) (sym (b20 .is-accepted .ensures) ∙ not-false _ (b19 .if1 .left)) (b11 .close .ensures)
+    (b16 .put-record .ensures .0) (b16 .put-record .ensures .1) (c .block-more .ensures) (b7 .put-block .ensures .0) (b7 .put-block .ensures .1)
+    (b7 .put-block .ensures .2)
 
 pub append-block-spec : {M : Type 1} → statement M
 append-block-spec =

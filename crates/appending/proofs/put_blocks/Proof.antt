@@ -15,7 +15,10 @@ use Rattle.appending.proofs.put_blocks.Statement.{statement}
 use Rattle.appending.proofs.put_blocks.Tie as tie
 
 abbrev Inv-loop : tie.InvT-loop
-Inv-loop bytes₀ starts₀ lens₀ first base src srcstarts srclens n at₀ k₀ bytes starts lens at k = (k ≤ n) × (length bytes ≡ length bytes₀) × (length starts ≡ length starts₀) × (length lens ≡ length lens₀) × (at ≡ endFrom (blockBytes (bare [] src srcstarts srclens)) k base) × (bytes ≡ putData (blockBytes (bare [] src srcstarts srclens)) k bytes₀ base) × (starts ≡ putStarts (blockBytes (bare [] src srcstarts srclens)) k starts₀ first base) × (lens ≡ putLens (blockBytes (bare [] src srcstarts srclens)) k lens₀ first)
+Inv-loop bytes₀ starts₀ lens₀ first base src srcstarts srclens n at₀ k₀ bytes starts lens at k = (k ≤ n) × (length bytes ≡ length bytes₀)
+    × (length starts ≡ length starts₀) × (length lens ≡ length lens₀) × (at ≡ endFrom (blockBytes (bare [] src srcstarts srclens)) k base)
+    × (bytes ≡ putData (blockBytes (bare [] src srcstarts srclens)) k bytes₀ base) × (starts ≡ putStarts (blockBytes (bare [] src srcstarts srclens))
+    k starts₀ first base) × (lens ≡ putLens (blockBytes (bare [] src srcstarts srclens)) k lens₀ first)
 
 abbrev μ-loop : tie.MeasureT-loop
 μ-loop bytes₀ starts₀ lens₀ first base src srcstarts srclens n at₀ k₀ bytes starts lens at k = n - k
@@ -112,27 +115,31 @@ put-block-requires c κs =
 
 add-at : tie.Need-add-at Inv-loop μ-loop
 add-at c =
-    let a = c .before .before .before .before .before .before .before .before .before .before .before .before .before .before .before .before .before .before .before .before .before .args in
+    let b13 = c .before .before .before .before .before .before .before .before .before .before .before .before .before in let b14 = b13 .before in
+    let b21 = b14 .before .before .before .before .before .before .before in
+    let a = b21 .args in
     let bs = now (a .src) in
     let ss = now (a .srcstarts) in
     let ns = now (a .srclens) in
-    let k = c .before .before .before .before .before .before .before .before .before .before .before .before .before .before .loop .k in
-    let p = c .before .before .before .before .before .before .before .before .before .before .before .before .before .before .before .before .before .before .before .before .before .pre in
-    let h = c .before .before .before .before .before .before .before .before .before .before .before .before .before .loop-test .taken in
-    let v = c .before .before .before .before .before .before .before .before .before .before .before .before .before .before .loop .inv in
+    let k = b14 .loop .k in
+    let p = b21 .pre in
+    let h = b13 .loop-test .taken in
+    let v = b14 .loop .inv in
     let ei = end-is bs ss ns (a .n) (p .listed) (p .lie) k (a .base) (v .0) in
     let tb = total-below bs ss ns k (a .n) h in
     omega (arith, ei, tb, v, p .small)
 
 add-k : tie.Need-add-k Inv-loop μ-loop
 add-k c =
-    let a = c .before .before .before .before .before .before .before .before .before .before .before .before .before .before .before .before .before .before .before .before .before .args in
+    let b13 = c .before .before .before .before .before .before .before .before .before .before .before .before .before in let b14 = b13 .before in
+    let b21 = b14 .before .before .before .before .before .before .before in
+    let a = b21 .args in
     let bs = now (a .src) in
     let ss = now (a .srcstarts) in
     let ns = now (a .srclens) in
-    let k = c .before .before .before .before .before .before .before .before .before .before .before .before .before .before .loop .k in
-    let p = c .before .before .before .before .before .before .before .before .before .before .before .before .before .before .before .before .before .before .before .before .before .pre in
-    let h = c .before .before .before .before .before .before .before .before .before .before .before .before .before .loop-test .taken in
+    let k = b14 .loop .k in
+    let p = b21 .pre in
+    let h = b13 .loop-test .taken in
     omega (arith, p .few)
 
 loop-less : tie.Need-loop-less Inv-loop μ-loop
@@ -140,23 +147,25 @@ loop-less c = omega arith
 
 loop-again : tie.Need-loop-again Inv-loop μ-loop
 loop-again c =
-    let a = c .before .before .before .before .before .before .before .before .before .before .before .before .before .before .before .before .before .before .before .before .before .args in
+    let b6 = c .before .before .before .before .before .before in let b13 = b6 .before .before .before .before .before .before .before in
+    let b14 = b13 .before in let b21 = b14 .before .before .before .before .before .before .before in
+    let a = b21 .args in
     let bs = now (a .src) in
     let ss = now (a .srcstarts) in
     let ns = now (a .srclens) in
-    let k = c .before .before .before .before .before .before .before .before .before .before .before .before .before .before .loop .k in
-    let p = c .before .before .before .before .before .before .before .before .before .before .before .before .before .before .before .before .before .before .before .before .before .pre in
-    let h = c .before .before .before .before .before .before .before .before .before .before .before .before .before .loop-test .taken in
-    let v = c .before .before .before .before .before .before .before .before .before .before .before .before .before .before .loop .inv in
+    let k = b14 .loop .k in
+    let p = b21 .pre in
+    let h = b13 .loop-test .taken in
+    let v = b14 .loop .inv in
     let ei = end-is bs ss ns (a .n) (p .listed) (p .lie) k (a .base) (v .0) in
     let tb = total-below bs ss ns k (a .n) h in
     let bi = block-is bs ss ns (a .n) (p .listed) (p .lie) k h in
     let bl = block-length bs ss ns (a .n) (p .listed) (p .lie) k h in
     let f = blockBytes (bare [] bs ss ns) in
-    let e = c .before .before .before .before .before .before .put-block .ensures in
-    let l1 : length (c .before .before .before .before .before .before .put-block .last .0) ≡ length (c .before .before .before .before .before .before .before .before .before .before .before .before .before .before .loop .bytes) = search needs in
-    let l2 : length (c .before .before .before .before .before .before .put-block .last .1 .0) ≡ length (c .before .before .before .before .before .before .before .before .before .before .before .before .before .before .loop .starts) = search needs in
-    let l3 : length (c .before .before .before .before .before .before .put-block .last .1 .1 .0) ≡ length (c .before .before .before .before .before .before .before .before .before .before .before .before .before .before .loop .lens) = search needs in (
+    let e = b6 .put-block .ensures in
+    let l1 : length (b6 .put-block .last .0) ≡ length (b14 .loop .bytes) = search needs in
+    let l2 : length (b6 .put-block .last .1 .0) ≡ length (b14 .loop .starts) = search needs in
+    let l3 : length (b6 .put-block .last .1 .1 .0) ≡ length (b14 .loop .lens) = search needs in (
       omega arith,
       l1 ∙ v .1,
       l2 ∙ v .2,

@@ -26,8 +26,10 @@ same-length c = search needs
 
 returns : tie.Need-returns
 returns c =
-    let a = c .before .before .before .before .before .before .before .before .args in
-    c .before .before .before .before .copy16 .ensures ∙ row-short (now (a .views)) (now (a .src)) (a .to) (a .from) (a .before) (omega (arith, c .before .view-len .ensures .0))
+    let b8 = c .before .before .before .before .before .before .before .before in
+    let a = b8 .args in
+    c .before .before .before .before .copy16 .ensures ∙ row-short (now (a .views)) (now (a .src)) (a .to) (a .from) (a .before)
+    (omega (arith, c .before .view-len .ensures .0))
 
 view-block-requires : tie.Need-view-block-requires
 view-block-requires c κs = search needs
@@ -46,8 +48,12 @@ same-length-2 c = search needs
 
 returns-2 : tie.Need-returns-2
 returns-2 c =
-    let a = c .before .before .before .before .before .before .before .before .before .before .before .before .before .args in
-    c .before .before .put32 .ensures ∙ ap (λ (l : List ℕ). putWord l (16 * a .to + 8) (c .before .before .before .before .view-block .result + a .before) 4) (c .before .before .before .before .before .before .before .before .before .copy16 .ensures) ∙ row-long (now (a .views)) (now (a .src)) (a .to) (a .from) (a .before) _ (c .before .before .before .before .before .before .before .before .before .before .before .before .before .pre .0) (c .before .before .before .before .before .before .before .before .before .before .before .before .before .pre .1) (omega (arith, c .before .before .before .before .before .before .view-len .ensures .0)) (ap (λ (z : ℕ). z + a .before) (c .before .before .before .before .view-block .ensures .0))
+    let b9 = c .before .before .before .before .before .before .before .before .before in let b13 = b9 .before .before .before .before in
+    let a = b13 .args in
+    c .before .before .put32 .ensures ∙ ap (λ (l : List ℕ). putWord l (16 * a .to + 8) (c .before .before .before .before .view-block .result
+    + a .before) 4) (b9 .copy16 .ensures) ∙ row-long (now (a .views)) (now (a .src)) (a .to) (a .from) (a .before) _ (b13 .pre .0) (b13 .pre .1)
+    (omega (arith, c .before .before .before .before .before .before .view-len .ensures .0)) (ap (λ (z : ℕ). z + a .before)
+    (c .before .before .before .before .view-block .ensures .0))
 
 pub put-row-spec : {M : Type 1} → statement M
 put-row-spec =

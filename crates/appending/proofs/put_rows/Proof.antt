@@ -14,7 +14,8 @@ use Rattle.appending.proofs.put_rows.Statement.{statement}
 use Rattle.appending.proofs.put_rows.Tie as tie
 
 abbrev Inv-loop : tie.InvT-loop
-Inv-loop views₀ to src from n before k₀ views k = (k ≤ n) × (length views ≡ length views₀) × (views ≡ putFrom (λ q. renumbered before (viewAt src (from + q))) k views₀ to)
+Inv-loop views₀ to src from n before k₀ views k = (k ≤ n) × (length views ≡ length views₀)
+    × (views ≡ putFrom (λ q. renumbered before (viewAt src (from + q))) k views₀ to)
 
 abbrev μ-loop : tie.MeasureT-loop
 μ-loop views₀ to src from n before k₀ views k = n - k
@@ -30,7 +31,9 @@ add-put-row-2 : tie.Need-add-put-row-2 Inv-loop μ-loop
 add-put-row-2 c = omega (arith, c .before .before .before .before .before .pre)
 
 put-row-requires : tie.Need-put-row-requires Inv-loop μ-loop
-put-row-requires c κs = (omega (arith, c .before .before .before .before .before .pre, c .before .before .loop .inv), omega (arith, c .before .before .before .before .before .pre), c .before .before .before .before .before .pre .2)
+put-row-requires c κs =
+    let b5 = c .before .before .before .before .before in
+    (omega (arith, b5 .pre, c .before .before .loop .inv), omega (arith, b5 .pre), b5 .pre .2)
 
 add-k : tie.Need-add-k Inv-loop μ-loop
 add-k c = omega (arith, c .before .before .before .before .before .before .before .before .pre)
@@ -40,11 +43,16 @@ loop-less c = omega arith
 
 loop-again : tie.Need-loop-again Inv-loop μ-loop
 loop-again c =
-    let a = c .before .before .before .before .before .before .before .before .args in
-    let k = c .before .before .before .before .before .loop .k in
+    let b5 = c .before .before .before .before .before in let b8 = b5 .before .before .before in
+    let a = b8 .args in
+    let k = b5 .loop .k in
     let f : ℕ → List ℕ = λ q. renumbered (a .before) (viewAt (now (a .src)) (a .from + q)) in
-    let l1 : length (c .before .before .put-row .last .0) ≡ length (c .before .before .before .before .before .loop .views) = search needs in
-    (omega arith, l1 ∙ c .before .before .before .before .before .loop .inv .1, c .before .before .put-row .ensures ∙ ap (λ (l : List ℕ). paste l (16 * (a .to + k)) (f k) 16) (c .before .before .before .before .before .loop .inv .2) ∙ from-more f (now (a .views)) (a .to) k)
+    let l1 : length (c .before .before .put-row .last .0) ≡ length (b5 .loop .views) = search needs in (
+      omega arith,
+      l1 ∙ b5 .loop .inv .1,
+      c .before .before .put-row .ensures ∙ ap (λ (l : List ℕ). paste l (16 * (a .to + k)) (f k) 16)
+          (b5 .loop .inv .2) ∙ from-more f (now (a .views)) (a .to) k,
+    )
 
 same-length : tie.Need-same-length Inv-loop μ-loop
 same-length c = c .before .loop .inv .1

@@ -43,8 +43,12 @@ loop-again : tie.Need-loop-again Inv-loop μ-loop
 loop-again c =
     let ns = now (c .before .before .before .args .lens) in
     let k = c .before .before .loop .k in
-    let m = c .before .before .before .pre .2 k (c .before .loop-test .taken) in
-    (omega arith, ap (λ (z : ℕ). z + getD ns k 0) (c .before .before .loop .inv .1) ∙ total-more ns ns ns k, omega (arith, m, c .before .before .loop .inv, byte-limit-is))
+    let m = c .before .before .before .pre .2 k (c .before .loop-test .taken) in (
+      omega arith,
+      ap (λ (z : ℕ). z + getD ns k 0) (c .before .before .loop .inv .1) ∙ total-more ns ns ns k,
+      omega
+          (arith, m, c .before .before .loop .inv, byte-limit-is),
+    )
 
 returns : tie.Need-returns Inv-loop μ-loop
 returns c =

@@ -26,12 +26,16 @@ bytes-room-requires c κs = search needs
 
 why-room-requires : tie.Need-why-room-requires
 why-room-requires c κs =
-    let a = c .before .before .before .before .before .before .before .before .before .before .before .before .args in
-    let f = fits-gives (a .s) (now (a .views)) (now (a .bytes)) (now (a .starts)) (now (a .lens)) (now (a .nulls)) (now (a .places)) (sym (c .before .before .before .before .fits-lent .ensures) ∙ not-false _ (c .before .before .before .if1 .left)) in
+    let b12 = c .before .before .before .before .before .before .before .before .before .before .before .before in
+    let a = b12 .args in
+    let f = fits-gives (a .s) (now (a .views)) (now (a .bytes)) (now (a .starts)) (now (a .lens)) (now (a .nulls)) (now (a .places))
+    (sym (c .before .before .before .before .fits-lent .ensures) ∙ not-false _ (c .before .before .before .if1 .left)) in
     (omega (arith, f .blocks, block-limit-small), omega (arith, f .small, byte-limit-small))
 
 returns-3 : tie.Need-returns-3
-returns-3 c = block-room _ _ _ _ _ _ _ _ _ _ _ (sym (c .before .before .before .before .before .fits-lent .ensures) ∙ not-false _ (c .before .before .before .before .if1 .left)) (omega (arith, byte-limit-is)) (c .before .before .blocks-room .ensures) (c .before .bytes-room .ensures) (c .why-room .ensures)
+returns-3 c = block-room _ _ _ _ _ _ _ _ _ _ _ (sym (c .before .before .before .before .before .fits-lent .ensures)
+    ∙ not-false _ (c .before .before .before .before .if1 .left)) (omega (arith, byte-limit-is)) (c .before .before .blocks-room .ensures)
+    (c .before .bytes-room .ensures) (c .why-room .ensures)
 
 pub why-block-spec : {M : Type 1} → statement M
 why-block-spec =

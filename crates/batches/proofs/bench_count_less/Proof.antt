@@ -35,7 +35,8 @@ sub-loop : tie.Need-sub-loop Inv-loop μ-loop
 sub-loop c = omega arith
 
 add-compare : tie.Need-add-compare Inv-loop μ-loop
-add-compare c = let g = fits-gives _ _ _ _ _ _ (sym (c .before .before .before .fits2 .ensures) ∙ not-false _ (c .before .before .if1 .left)) in omega (arith, row-limit-small)
+add-compare c = let g = fits-gives _ _ _ _ _ _ (sym (c .before .before .before .fits2 .ensures) ∙ not-false _ (c .before .before .if1 .left)) in
+    omega (arith, row-limit-small)
 
 compare-requires : tie.Need-compare-requires Inv-loop μ-loop
 compare-requires c κs = search needs
@@ -47,19 +48,27 @@ one-if-zero-requires : tie.Need-one-if-zero-requires Inv-loop μ-loop
 one-if-zero-requires c κs = search needs
 
 add-n : tie.Need-add-n Inv-loop μ-loop
-add-n c = let g = fits-gives _ _ _ _ _ _ (sym (c .before .before .before .before .before .before .fits2 .ensures) ∙ not-false _ (c .before .before .before .before .before .if1 .left)) in omega (arith, row-limit-small)
+add-n c = let g = fits-gives _ _ _ _ _ _ (sym (c .before .before .before .before .before .before .fits2 .ensures)
+    ∙ not-false _ (c .before .before .before .before .before .if1 .left)) in omega (arith, row-limit-small)
 
 add-k : tie.Need-add-k Inv-loop μ-loop
-add-k c = let g = fits-gives _ _ _ _ _ _ (sym (c .before .before .before .before .before .before .fits2 .ensures) ∙ not-false _ (c .before .before .before .before .before .if1 .left)) in omega (arith, row-limit-small)
+add-k c = let g = fits-gives _ _ _ _ _ _ (sym (c .before .before .before .before .before .before .fits2 .ensures)
+    ∙ not-false _ (c .before .before .before .before .before .if1 .left)) in omega (arith, row-limit-small)
 
 loop-less : tie.Need-loop-less Inv-loop μ-loop
 loop-less c = omega arith
 
 loop-again : tie.Need-loop-again Inv-loop μ-loop
-loop-again c = (omega arith, omega arith, less-more _ _ _ _ _ _ (c .before .before .before .before .loop .inv .2) (c .before .compared-number .ensures ∙ ap comparedNumber (c .before .before .compare .ensures)) (c .one-if-zero .ensures .0))
+loop-again c = (
+  omega arith,
+  omega arith,
+  less-more _ _ _ _ _ _ (c .before .before .before .before .loop .inv .2) (c .before .compared-number .ensures
+      ∙ ap comparedNumber (c .before .before .compare .ensures)) (c .one-if-zero .ensures .0),
+)
 
 returns-2 : tie.Need-returns-2 Inv-loop μ-loop
-returns-2 c = rw (c .before .before .before .before .column-of .ensures) at (counted _ _ _ (c .before .loop .k) (sym (c .before .before .before .fits2 .ensures) ∙ not-false _ (c .before .before .if1 .left)) (omega arith) (c .before .loop .inv .2))
+returns-2 c = rw (c .before .before .before .before .column-of .ensures) at (counted _ _ _ (c .before .loop .k)
+    (sym (c .before .before .before .fits2 .ensures) ∙ not-false _ (c .before .before .if1 .left)) (omega arith) (c .before .loop .inv .2))
 
 pub bench-count-less-spec : {M : Type 1} → statement M
 bench-count-less-spec =

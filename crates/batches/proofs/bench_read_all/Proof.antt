@@ -44,10 +44,15 @@ loop-less : tie.Need-loop-less Inv-loop μ-loop
 loop-less c = omega arith
 
 loop-again : tie.Need-loop-again Inv-loop μ-loop
-loop-again c = (omega arith, taste-more _ _ _ _ _ _ (c .before .before .before .before .loop .inv .1) (c .before .taste .ensures ∙ ap tasteOf (c .before .before .value .ensures .0)) (c .wrapping-add-u64 .ensures))
+loop-again c = (
+  omega arith,
+  taste-more _ _ _ _ _ _ (c .before .before .before .before .loop .inv .1) (c .before .taste .ensures
+      ∙ ap tasteOf (c .before .before .value .ensures .0)) (c .wrapping-add-u64 .ensures),
+)
 
 returns-2 : tie.Need-returns-2 Inv-loop μ-loop
-returns-2 c = rw (c .before .before .before .before .column-of .ensures) at (tasted _ _ _ (c .before .loop .k) (sym (c .before .before .before .fits2 .ensures) ∙ not-false _ (c .before .before .if1 .left)) (omega arith) (c .before .loop .inv .1))
+returns-2 c = rw (c .before .before .before .before .column-of .ensures) at (tasted _ _ _ (c .before .loop .k)
+    (sym (c .before .before .before .fits2 .ensures) ∙ not-false _ (c .before .before .if1 .left)) (omega arith) (c .before .loop .inv .1))
 
 pub bench-read-all-spec : {M : Type 1} → statement M
 bench-read-all-spec =

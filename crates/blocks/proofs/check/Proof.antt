@@ -72,7 +72,17 @@ use Rattle.blocks.proofs.check.Statement as stated
 use Rattle.blocks.proofs.check.Code as code
 
 abbrev stayed : Stays (F.ended .signature .params) (F.ended .kept)
-stayed = (stay-none-slice (0 ∷ []) tt (plain (λ _. u8)) yes, (stay-none-slice (0 ∷ []) tt (plain (λ _. u8)) yes, (stay-none-slice (0 ∷ []) tt (plain (λ _. T.the-row)) yes, (stay-none-slice (0 ∷ []) tt (plain (λ _. u8)) yes, (stay-none (λ _. K.the-row) yes, tt)))))
+stayed = (
+  stay-none-slice (0 ∷ []) tt (plain (λ _. u8)) yes,
+  (
+    stay-none-slice (0 ∷ []) tt (plain (λ _. u8)) yes,
+    (
+      stay-none-slice (0 ∷ []) tt
+          (plain (λ _. T.the-row)) yes,
+      (stay-none-slice (0 ∷ []) tt (plain (λ _. u8)) yes, (stay-none (λ _. K.the-row) yes, tt)),
+    ),
+  ),
+)
 
 module _ {M : Type 1} (𝓤 : URA M) (H : Heap 𝓤) (A : Atoms 𝓤) (mem : Memory → SProp 𝓤) (run : Routine → Fun 𝓤) where
   -- the contracts that the proof cites
@@ -90,7 +100,8 @@ module _ {M : Type 1} (𝓤 : URA M) (H : Heap 𝓤) (A : Atoms 𝓤) (mem : Mem
 
 module _ {M : Type 1} (𝓤 : URA M) (H : Heap 𝓤) (A : Atoms 𝓤) (W : Given 𝓤 H A) (mem : Memory → SProp 𝓤) (run : Routine → Fun 𝓤) (κ : Lft) (q : Share)
     (x y : RefT (List ℕ)) (t : RefT (List Block)) (z : RefT (List ℕ)) (c : Column)
-    (gx : Room u8 (length (now x))) (gy : Room u8 (length (now y))) (gt : Room T.the-row (length (now t))) (gz : Room u8 (length (now z))) (gc : Is K.the-row c (column-val c ∷ [])) where
+    (gx : Room u8 (length (now x))) (gy : Room u8 (length (now y))) (gt : Room T.the-row (length (now t))) (gz : Room u8 (length (now z)))
+    (gc : Is K.the-row c (column-val c ∷ [])) where
   abbrev a : RefT (List ℕ) × (RefT (List ℕ) × (RefT (List Block) × (RefT (List ℕ) × (Column × Unit {0}))))
   a = (x, (y, (t, (z, (c, tt)))))
 
@@ -98,7 +109,8 @@ module _ {M : Type 1} (𝓤 : URA M) (H : Heap 𝓤) (A : Atoms 𝓤) (W : Given
   at = (slice-vals x, (slice-vals y, (slice-vals t, (slice-vals z, (column-val c ∷ [], tt)))))
 
   abbrev passed : List Val
-  passed = sliceVal (x .ptr) (length (now x)) ∷ sliceVal (y .ptr) (length (now y)) ∷ sliceVal (t .ptr) (length (now t)) ∷ sliceVal (z .ptr) (length (now z)) ∷ column-val c ∷ []
+  passed = sliceVal (x .ptr) (length (now x)) ∷ sliceVal (y .ptr) (length (now y)) ∷ sliceVal (t .ptr) (length (now t)) ∷ sliceVal (z .ptr)
+      (length (now z)) ∷ column-val c ∷ []
 
   abbrev Post : Val → SProp 𝓤
   Post = walkOf 𝓤 H A F.ended stayed (F.clauses 𝓤 H A mem run) .post (((κ, tt), (q, tt), tt, a, at), tt)
@@ -137,7 +149,8 @@ module _ {M : Type 1} (𝓤 : URA M) (H : Heap 𝓤) (A : Atoms 𝓤) (W : Given
     asked₂ : n < 2 ^ 64 → ent 𝓤 (⋆ 𝓤 H A ((‵ (flft κ q) ⊛ ‵ ftrue) ∷ ‵ (Own x) ∷ ‵ (Own z) ∷ [])) (PlacesWith 𝓤 H A mem run .pre to₂)
     asked₂ gn =
         qed W ((‵ (flft κ q) ⊛ ‵ ftrue) ∷ ‵ (Own x) ∷ ‵ (Own z) ∷ []) ∵ nothing ! $ owned ! usize (Is usize) (uint-makes 𝓤 H A W w64) n _ (refl, gn) $ fjoin ! $
-        owned ! K.the-row (Is K.the-row) (LL.makes K.the-type K′.the-plain 𝓤 H A) c _ gc $ fjoin ! $ move ! (3 ∷ 0 ∷ []) $ fjoin ! $ move ! (2 ∷ 0 ∷ []) $ fjoin ! $ move ! (1 ∷ 0 ∷ []) $ join ! $ frame ! $ done !
+        owned ! K.the-row (Is K.the-row) (LL.makes K.the-type K′.the-plain 𝓤 H A) c _ gc $ fjoin ! $ move ! (3 ∷ 0 ∷ []) $ fjoin ! $ move !
+        (2 ∷ 0 ∷ []) $ fjoin ! $ move ! (1 ∷ 0 ∷ []) $ join ! $ frame ! $ done !
 
     said₂ : (m : ℕ) → ent 𝓤 (ensured 𝓤 H A E.ended (E.clauses 𝓤 H A mem run) (κ, tt) a₂ tt m) (fact 𝓤 (Counted (now x) (now z) c n m))
     said₂ m = exE 𝓤 _ (λ ws. snd∗ 𝓤 (sem 𝓤 H A (lasts E.ended (κ, tt) a₂ ws)) (fact 𝓤 (Counted (now x) (now z) c n m)))
@@ -152,8 +165,10 @@ module _ {M : Type 1} (𝓤 : URA M) (H : Heap 𝓤) (A : Atoms 𝓤) (W : Given
 
     asked₃ : m < 2 ^ 64 → ent 𝓤 (⋆ 𝓤 H A ((‵ (flft κ q) ⊛ ‵ ftrue) ∷ ‵ (Own x) ∷ (‵ Tb ⊛ ‵ (Own y)) ∷ [])) (StopAt 𝓤 H A mem run .pre to₃)
     asked₃ gm =
-        qed W ((‵ (flft κ q) ⊛ ‵ ftrue) ∷ ‵ (Own x) ∷ (‵ Tb ⊛ ‵ (Own y)) ∷ []) ∵ move ! (2 ∷ []) $ split ! $ nothing ! $ owned ! usize (Is usize) (uint-makes 𝓤 H A W w64) m _ (refl, gm) $ fjoin ! $
-        owned ! K.the-row (Is K.the-row) (LL.makes K.the-type K′.the-plain 𝓤 H A) c _ gc $ fjoin ! $ move ! (1 ∷ 0 ∷ []) $ fjoin ! $ move ! (1 ∷ 0 ∷ []) $ fjoin ! $ move ! (2 ∷ 0 ∷ []) $ fjoin ! $ move ! (1 ∷ 0 ∷ []) $ join ! $ frame ! $ done !
+        qed W ((‵ (flft κ q) ⊛ ‵ ftrue) ∷ ‵ (Own x) ∷ (‵ Tb ⊛ ‵ (Own y)) ∷ []) ∵ move ! (2 ∷ []) $ split ! $ nothing ! $ owned ! usize (Is usize)
+        (uint-makes 𝓤 H A W w64) m _ (refl, gm) $ fjoin ! $
+        owned ! K.the-row (Is K.the-row) (LL.makes K.the-type K′.the-plain 𝓤 H A) c _ gc $ fjoin ! $ move ! (1 ∷ 0 ∷ []) $ fjoin ! $ move !
+        (1 ∷ 0 ∷ []) $ fjoin ! $ move ! (2 ∷ 0 ∷ []) $ fjoin ! $ move ! (1 ∷ 0 ∷ []) $ join ! $ frame ! $ done !
 
     said₃ : (i : ℕ) → ent 𝓤 (ensured 𝓤 H A G.ended (G.clauses 𝓤 H A mem run) (κ, tt) a₃ tt i) (fact 𝓤 (Found (now x) (now y) (now t) c m i))
     said₃ i = exE 𝓤 _ (λ ws. snd∗ 𝓤 (sem 𝓤 H A (lasts G.ended (κ, tt) a₃ ws)) (fact 𝓤 (Found (now x) (now y) (now t) c m i)))
@@ -168,78 +183,133 @@ module _ {M : Type 1} (𝓤 : URA M) (H : Heap 𝓤) (A : Atoms 𝓤) (W : Given
 
     asked₄ : n < 2 ^ 64 → i < 2 ^ 64 → ent 𝓤 (⋆ 𝓤 H A ((‵ (flft κ q) ⊛ ‵ ftrue) ∷ ‵ (Own x) ∷ ‵ (Own z) ∷ [])) (CheckWith 𝓤 H A mem run .pre to₄)
     asked₄ gn gi =
-        qed W ((‵ (flft κ q) ⊛ ‵ ftrue) ∷ ‵ (Own x) ∷ ‵ (Own z) ∷ []) ∵ nothing ! $ owned ! usize (Is usize) (uint-makes 𝓤 H A W w64) i _ (refl, gi) $ fjoin ! $ owned ! usize (Is usize) (uint-makes 𝓤 H A W w64) n _ (refl, gn) $ fjoin ! $
-        owned ! K.the-row (Is K.the-row) (LL.makes K.the-type K′.the-plain 𝓤 H A) c _ gc $ fjoin ! $ move ! (3 ∷ 0 ∷ []) $ fjoin ! $ move ! (2 ∷ 0 ∷ []) $ fjoin ! $ move ! (1 ∷ 0 ∷ []) $ join ! $ frame ! $ done !
+        qed W ((‵ (flft κ q) ⊛ ‵ ftrue) ∷ ‵ (Own x) ∷ ‵ (Own z) ∷ []) ∵ nothing ! $ owned ! usize (Is usize) (uint-makes 𝓤 H A W w64) i _ (refl, gi) $
+        fjoin ! $ owned ! usize (Is usize) (uint-makes 𝓤 H A W w64) n _ (refl, gn) $ fjoin ! $
+        owned ! K.the-row (Is K.the-row) (LL.makes K.the-type K′.the-plain 𝓤 H A) c _ gc $ fjoin ! $ move ! (3 ∷ 0 ∷ []) $ fjoin ! $ move !
+        (2 ∷ 0 ∷ []) $ fjoin ! $ move ! (1 ∷ 0 ∷ []) $ join ! $ frame ! $ done !
 
     abbrev Said : Why → Type 0
-    Said w = (bytes : List ℕ) (table : List Block) → n ≡ length table → (fits (buffers (now x) bytes table (now z)) c ≡ true → Stopped (buffers (now x) bytes table (now z)) c i) → w ≡ whyInvalid (buffers (now x) bytes table (now z)) c
+    Said w = (bytes : List ℕ) (table : List Block) → n ≡ length table → (fits (buffers (now x) bytes table (now z)) c ≡ true
+        → Stopped (buffers (now x) bytes table (now z)) c i) → w ≡ whyInvalid (buffers (now x) bytes table (now z)) c
 
     said₄ : (w : Why) → ent 𝓤 (ensured 𝓤 H A P.ended (P.clauses 𝓤 H A mem run) (κ, tt) a₄ tt w) (fact 𝓤 (Said w))
     said₄ w = exE 𝓤 _ (λ ws. snd∗ 𝓤 (sem 𝓤 H A (lasts P.ended (κ, tt) a₄ ws)) (fact 𝓤 (Said w)))
 
-  exits : (w : Why) (u : Val) → w ≡ whyInvalid (buffers (now x) (now y) (now t) (now z)) c → ent 𝓤 (⋆ 𝓤 H A (‵ (Y.the-row .own w (u ∷ [])) ∷ (‵ (flft κ q) ⊛ ‵ ftrue) ∷ ‵ (Own z) ∷ ‵ Rest ∷ ‵ Tb ∷ ‵ (Own y) ∷ ‵ (Own x) ∷ [])) (Post u)
+  exits : (w : Why) (u : Val) → w ≡ whyInvalid (buffers (now x) (now y) (now t) (now z)) c
+      → ent 𝓤 (⋆ 𝓤 H A (‵ (Y.the-row .own w (u ∷ [])) ∷ (‵ (flft κ q) ⊛ ‵ ftrue) ∷ ‵ (Own z) ∷ ‵ Rest ∷ ‵ Tb ∷ ‵ (Own y) ∷ ‵ (Own x) ∷ [])) (Post u)
   exits w u e =
       qed W (‵ (Y.the-row .own w (u ∷ [])) ∷ (‵ (flft κ q) ⊛ ‵ ftrue) ∷ ‵ (Own z) ∷ ‵ Rest ∷ ‵ Tb ∷ ‵ (Own y) ∷ ‵ (Own x) ∷ []) ∵
-      suffices ! _ (ends-at 𝓤 H A F.ended stayed (F.clauses 𝓤 H A mem run) W (((κ, tt), (q, tt), tt, a, at), tt) u w (tt, (tt, (tt, (tt, (tt, tt))))) (tt, (tt, (tt, (tt, (tt, tt)))))) $ says ! e $
-      move ! (1 ∷ []) $ frame ! $ move ! (1 ∷ 2 ∷ []) $ fjoin ! $ move ! (2 ∷ 0 ∷ []) $ fjoin ! $ move ! (2 ∷ 0 ∷ []) $ fjoin ! $ move ! (2 ∷ 0 ∷ []) $ fjoin ! $ frame ! $ done !
+      suffices ! _ (ends-at 𝓤 H A F.ended stayed (F.clauses 𝓤 H A mem run) W (((κ, tt), (q, tt), tt, a, at), tt) u w (tt, (tt, (tt, (tt, (tt, tt)))))
+      (tt, (tt, (tt, (tt, (tt, tt)))))) $ says ! e $
+      move ! (1 ∷ []) $ frame ! $ move ! (1 ∷ 2 ∷ []) $ fjoin ! $ move ! (2 ∷ 0 ∷ []) $ fjoin ! $ move ! (2 ∷ 0 ∷ []) $ fjoin ! $ move ! (2 ∷ 0 ∷ [])
+      $ fjoin ! $ frame ! $ done !
 
-  module _ (𝓣 : Tables 𝓤 H) (known₁ : Triple 𝓤 (𝓣 .C #blocks·count) (Count 𝓤 H A mem run)) (known₂ : Triple 𝓤 (𝓣 .C #blocks·places-with) (PlacesWith 𝓤 H A mem run)) (known₃ : Triple 𝓤 (𝓣 .C #blocks·stop-at) (StopAt 𝓤 H A mem run)) (known₄ : Triple 𝓤 (𝓣 .C #blocks·check-with) (CheckWith 𝓤 H A mem run)) where
+  module _ (𝓣 : Tables 𝓤 H) (known₁ : Triple 𝓤 (𝓣 .C #blocks·count) (Count 𝓤 H A mem run)) (known₂ : Triple 𝓤 (𝓣 .C #blocks·places-with)
+      (PlacesWith 𝓤 H A mem run)) (known₃ : Triple 𝓤 (𝓣 .C #blocks·stop-at) (StopAt 𝓤 H A mem run)) (known₄ : Triple 𝓤 (𝓣 .C #blocks·check-with)
+      (CheckWith 𝓤 H A mem run)) where
     walk : ent 𝓤 (onEntry 𝓤 H A F.signature (κ, tt) (q, tt) a at) (WpFn 𝓤 H (𝓣 .C) (𝓣 .Λ) code.function passed Post)
     walk =
-        qed W ((‵ (flft κ q) ⊛ ‵ ftrue) ∷ ‵ (owns (ShrSlice (named 0) κ u8 ∷ ShrSlice (named 0) κ u8 ∷ ShrSlice (named 0) κ T.the-row ∷ ShrSlice (named 0) κ u8 ∷ K.the-row ∷ []) a at) ∷ []) ∵
+        qed W ((‵ (flft κ q) ⊛ ‵ ftrue) ∷ ‵ (owns (ShrSlice (named 0) κ u8 ∷ ShrSlice (named 0) κ u8 ∷ ShrSlice (named 0) κ T.the-row ∷ ShrSlice
+        (named 0) κ u8 ∷ K.the-row ∷ []) a at) ∷ []) ∵
         -- [the token; the nulls, three times; the column; the table, three times; the bytes, twice; the views, four times]
-        move ! (1 ∷ []) $ fsplit ! $ use1 W (‵ (Own x) ⊛ ‵ (Own x)) (shr-slice-copy 𝓤 H A W (named 0) κ u8 .twice x (slice-vals x)) $ split ! $ use1 W (‵ (Own x) ⊛ ‵ (Own x)) (shr-slice-copy 𝓤 H A W (named 0) κ u8 .twice x (slice-vals x)) $ split ! $ use1 W (‵ (Own x) ⊛ ‵ (Own x)) (shr-slice-copy 𝓤 H A W (named 0) κ u8 .twice x (slice-vals x)) $ split ! $
+        move ! (1 ∷ []) $ fsplit ! $ use1 W (‵ (Own x) ⊛ ‵ (Own x)) (shr-slice-copy 𝓤 H A W (named 0) κ u8 .twice x (slice-vals x)) $ split ! $ use1 W
+        (‵ (Own x) ⊛ ‵ (Own x)) (shr-slice-copy 𝓤 H A W (named 0) κ u8 .twice x (slice-vals x)) $ split ! $ use1 W (‵ (Own x) ⊛ ‵ (Own x))
+        (shr-slice-copy 𝓤 H A W (named 0) κ u8 .twice x (slice-vals x)) $ split ! $
         move ! (4 ∷ []) $ fsplit ! $ use1 W (‵ (Own y) ⊛ ‵ (Own y)) (shr-slice-copy 𝓤 H A W (named 0) κ u8 .twice y (slice-vals y)) $ split ! $
-        move ! (2 ∷ []) $ fsplit ! $ use1 W (‵ Tb ⊛ ‵ Tb) (shr-slice-copy 𝓤 H A W (named 0) κ T.the-row .twice t (slice-vals t)) $ split ! $ use1 W (‵ Tb ⊛ ‵ Tb) (shr-slice-copy 𝓤 H A W (named 0) κ T.the-row .twice t (slice-vals t)) $ split ! $
-        move ! (3 ∷ []) $ fsplit ! $ use1 W (‵ (Own z) ⊛ ‵ (Own z)) (shr-slice-copy 𝓤 H A W (named 0) κ u8 .twice z (slice-vals z)) $ split ! $ use1 W (‵ (Own z) ⊛ ‵ (Own z)) (shr-slice-copy 𝓤 H A W (named 0) κ u8 .twice z (slice-vals z)) $ split ! $ move ! (13 ∷ []) $
+        move ! (2 ∷ []) $ fsplit ! $ use1 W (‵ Tb ⊛ ‵ Tb) (shr-slice-copy 𝓤 H A W (named 0) κ T.the-row .twice t (slice-vals t)) $ split ! $ use1 W
+        (‵ Tb ⊛ ‵ Tb) (shr-slice-copy 𝓤 H A W (named 0) κ T.the-row .twice t (slice-vals t)) $ split ! $
+        move ! (3 ∷ []) $ fsplit ! $ use1 W (‵ (Own z) ⊛ ‵ (Own z)) (shr-slice-copy 𝓤 H A W (named 0) κ u8 .twice z (slice-vals z)) $ split ! $ use1 W
+        (‵ (Own z) ⊛ ‵ (Own z)) (shr-slice-copy 𝓤 H A W (named 0) κ u8 .twice z (slice-vals z)) $ split ! $ move ! (13 ∷ []) $
         enter ! (𝓣 .C) (𝓣 .Λ) code.function passed _ $
-        alloc1 ! (λ l₀. alloc1 ! (λ l₁. alloc1 ! (λ l₂. alloc1 ! (λ l₃. alloc1 ! (λ l₄. alloc1 ! (λ l₅. alloc1 ! (λ l₆. alloc1 ! (λ l₇. alloc1 ! (λ l₈. alloc0 ! $ params1 ! $
-        pass1 ! (init ! 14 refl (tt, (tt, (record { fits = gx .0 }, tt)))) $ pass1 ! (init ! 12 refl (tt, (tt, (record { fits = gy .0 }, tt)))) $ pass1 ! (init ! 10 refl (tt, (tt, (record { fits = gt .0 }, tt)))) $
-        pass1 ! (init ! 8 refl (tt, (tt, (record { fits = gz .0 }, tt)))) $ pass1 ! (init ! 6 refl (LL.lawful K.the-type K′.the-laws 𝓤 H A W .typed c _ gc .0)) $ pass0 ! $
+        alloc1 ! (λ l₀. alloc1 !
+        (λ l₁. alloc1 ! (λ l₂. alloc1 ! (λ l₃. alloc1 ! (λ l₄. alloc1 ! (λ l₅. alloc1 ! (λ l₆. alloc1 ! (λ l₇. alloc1 ! (λ l₈. alloc0 ! $ params1 ! $
+        pass1 ! (init ! 14 refl (tt, (tt, (record { fits = gx .0 }, tt)))) $ pass1 ! (init ! 12 refl (tt, (tt, (record { fits = gy .0 }, tt)))) $
+        pass1 ! (init ! 10 refl (tt, (tt, (record { fits = gt .0 }, tt)))) $
+        pass1 ! (init ! 8 refl (tt, (tt, (record { fits = gz .0 }, tt)))) $ pass1 ! (init ! 6 refl (LL.lawful K.the-type K′.the-laws 𝓤 H A W .typed c
+        _ gc .0)) $ pass0 ! $
         -- [_8; …; _7; …; _6; …; _5; …; _4; …; _3; …; _2; …; _1; …; _0; …; the token; the nulls; the column; the table; the bytes; the views]
         move ! (18 ∷ 23 ∷ []) $ use2 W (raw (Count 𝓤 H A mem run .pre to₁)) asked₁ $
         calls-at ! (fmOf 𝓤 H (W .laws) 𝓣) (Count 𝓤 H A mem run) known₁ to₁ (and-then ! (load ! (from ! (stop !)) (look ! 11 refl)) (no-more !)) (λ u.
-        use1 W (later (some (λ (n : ℕ). ((‵ (flft κ q) ⊛ ‵ ftrue) ⊛ ‵ (usize .own n (u ∷ []))) ⊛ raw (ensured 𝓤 H A N.ended (N.clauses 𝓤 H A mem run) (κ, tt) a₁ tt n)))) (id⊢ 𝓤 _) $ await ! tt $ pick ! (λ n.
+        use1 W (later (some (λ (n : ℕ). ((‵ (flft κ q) ⊛ ‵ ftrue) ⊛ ‵ (usize .own n (u ∷ []))) ⊛ raw (ensured 𝓤 H A N.ended (N.clauses 𝓤 H A mem run)
+        (κ, tt) a₁ tt n)))) (id⊢ 𝓤 _) $ await ! tt $ pick ! (λ n.
         split ! $ move ! (1 ∷ []) $ use1 W (raw (fact 𝓤 (n ≡ length (now t)))) (said₁ n) $ heard ! (n ≡ length (now t)) (λ is. split ! $ move ! (1 ∷ []) $
         peeks ! usize (Is usize) (shows 𝓤 H A usize) n (u ∷ []) (λ gn.
-        land ! (from ! (stop !)) (init ! 6 refl (uint-lawful 𝓤 H A W w64 .typed n _ gn .0)) $ rewrite ! 6 (λ (v : Val). ‵ (fat fullShare (tyInt w64) l₆ 0 v)) (ap only (gn .0)) refl $ drop ! $
+        land ! (from ! (stop !)) (init ! 6 refl (uint-lawful 𝓤 H A W w64 .typed n _ gn .0)) $ rewrite ! 6
+        (λ (v : Val). ‵ (fat fullShare (tyInt w64) l₆ 0 v)) (ap only (gn .0)) refl $ drop ! $
         move ! (0 ∷ 27 ∷ 19 ∷ []) $ use3 W (raw (PlacesWith 𝓤 H A mem run .pre (to₂ n))) (asked₂ n (gn .1)) $
-        calls-at ! (fmOf 𝓤 H (W .laws) 𝓣) (PlacesWith 𝓤 H A mem run) known₂ (to₂ n) (and-then ! (load ! (from ! (stop !)) (look ! 15 refl)) (and-then ! (load ! (from ! (stop !)) (look ! 9 refl)) (and-then ! (load ! (from ! (stop !)) (look ! 7 refl)) (and-then ! (load ! (from ! (stop !)) (look ! 5 refl)) (no-more !))))) (λ u′.
-        use1 W (later (some (λ (m : ℕ). ((‵ (flft κ q) ⊛ ‵ ftrue) ⊛ ‵ (usize .own m (u′ ∷ []))) ⊛ raw (ensured 𝓤 H A E.ended (E.clauses 𝓤 H A mem run) (κ, tt) (a₂ n) tt m)))) (id⊢ 𝓤 _) $ await ! tt $ pick ! (λ m.
-        split ! $ move ! (1 ∷ []) $ use1 W (raw (fact 𝓤 (Counted (now x) (now z) c n m))) (said₂ n m) $ heard ! (Counted (now x) (now z) c n m) (λ counted. split ! $ move ! (1 ∷ []) $
+        calls-at ! (fmOf 𝓤 H (W .laws) 𝓣) (PlacesWith 𝓤 H A mem run) known₂ (to₂ n) (and-then ! (load ! (from ! (stop !)) (look ! 15 refl))
+        (and-then ! (load ! (from ! (stop !)) (look ! 9 refl)) (and-then ! (load ! (from ! (stop !)) (look ! 7 refl))
+        (and-then ! (load ! (from ! (stop !)) (look ! 5 refl)) (no-more !))))) (λ u′.
+        use1 W (later (some (λ (m : ℕ). ((‵ (flft κ q) ⊛ ‵ ftrue) ⊛ ‵ (usize .own m (u′ ∷ []))) ⊛ raw (ensured 𝓤 H A E.ended (E.clauses 𝓤 H A mem run)
+        (κ, tt) (a₂ n) tt m)))) (id⊢ 𝓤 _) $ await ! tt $ pick ! (λ m.
+        split ! $ move ! (1 ∷ []) $ use1 W (raw (fact 𝓤 (Counted (now x) (now z) c n m))) (said₂ n m) $ heard ! (Counted (now x) (now z) c n m)
+        (λ counted. split ! $ move ! (1 ∷ []) $
         peeks ! usize (Is usize) (shows 𝓤 H A usize) m (u′ ∷ []) (λ gm.
-        land ! (from ! (stop !)) (init ! 4 refl (uint-lawful 𝓤 H A W w64 .typed m _ gm .0)) $ rewrite ! 4 (λ (v : Val). ‵ (fat fullShare (tyInt w64) l₇ 0 v)) (ap only (gm .0)) refl $ drop ! $
+        land ! (from ! (stop !)) (init ! 4 refl (uint-lawful 𝓤 H A W w64 .typed m _ gm .0)) $ rewrite ! 4
+        (λ (v : Val). ‵ (fat fullShare (tyInt w64) l₇ 0 v)) (ap only (gm .0)) refl $ drop ! $
         move ! (22 ∷ 24 ∷ []) $ join ! $ move ! (1 ∷ 25 ∷ 0 ∷ []) $ use3 W (raw (StopAt 𝓤 H A mem run .pre (to₃ m))) (asked₃ m (gm .1)) $
-        calls-at ! (fmOf 𝓤 H (W .laws) 𝓣) (StopAt 𝓤 H A mem run) known₃ (to₃ m) (and-then ! (load ! (from ! (stop !)) (look ! 15 refl)) (and-then ! (load ! (from ! (stop !)) (look ! 13 refl)) (and-then ! (load ! (from ! (stop !)) (look ! 11 refl)) (and-then ! (load ! (from ! (stop !)) (look ! 7 refl)) (and-then ! (load ! (from ! (stop !)) (look ! 3 refl)) (no-more !)))))) (λ u″.
-        use1 W (later (some (λ (i : ℕ). ((‵ (flft κ q) ⊛ ‵ ftrue) ⊛ ‵ (usize .own i (u″ ∷ []))) ⊛ raw (ensured 𝓤 H A G.ended (G.clauses 𝓤 H A mem run) (κ, tt) (a₃ m) tt i)))) (id⊢ 𝓤 _) $ await ! tt $ pick ! (λ i.
-        split ! $ move ! (1 ∷ []) $ use1 W (raw (fact 𝓤 (Found (now x) (now y) (now t) c m i))) (said₃ m i) $ heard ! (Found (now x) (now y) (now t) c m i) (λ f. split ! $ move ! (1 ∷ []) $
+        calls-at ! (fmOf 𝓤 H (W .laws) 𝓣) (StopAt 𝓤 H A mem run) known₃ (to₃ m) (and-then ! (load ! (from ! (stop !)) (look ! 15 refl))
+        (and-then ! (load ! (from ! (stop !)) (look ! 13 refl)) (and-then ! (load ! (from ! (stop !)) (look ! 11 refl))
+        (and-then ! (load ! (from ! (stop !)) (look ! 7 refl)) (and-then ! (load ! (from ! (stop !)) (look ! 3 refl)) (no-more !)))))) (λ u″.
+        use1 W (later (some (λ (i : ℕ). ((‵ (flft κ q) ⊛ ‵ ftrue) ⊛ ‵ (usize .own i (u″ ∷ []))) ⊛ raw (ensured 𝓤 H A G.ended (G.clauses 𝓤 H A mem run)
+        (κ, tt) (a₃ m) tt i)))) (id⊢ 𝓤 _) $ await ! tt $ pick ! (λ i.
+        split ! $ move ! (1 ∷ []) $ use1 W (raw (fact 𝓤 (Found (now x) (now y) (now t) c m i))) (said₃ m i) $ heard ! (Found (now x) (now y) (now t) c
+        m i) (λ f. split ! $ move ! (1 ∷ []) $
         peeks ! usize (Is usize) (shows 𝓤 H A usize) i (u″ ∷ []) (λ gi.
-        land ! (from ! (stop !)) (init ! 2 refl (uint-lawful 𝓤 H A W w64 .typed i _ gi .0)) $ rewrite ! 2 (λ (v : Val). ‵ (fat fullShare (tyInt w64) l₈ 0 v)) (ap only (gi .0)) refl $ drop ! $
+        land ! (from ! (stop !)) (init ! 2 refl (uint-lawful 𝓤 H A W w64 .typed i _ gi .0)) $ rewrite ! 2
+        (λ (v : Val). ‵ (fat fullShare (tyInt w64) l₈ 0 v)) (ap only (gi .0)) refl $ drop ! $
         move ! (0 ∷ 24 ∷ 19 ∷ []) $ use3 W (raw (CheckWith 𝓤 H A mem run .pre (to₄ n i))) (asked₄ n i (gn .1) (gi .1)) $
-        calls-at ! (fmOf 𝓤 H (W .laws) 𝓣) (CheckWith 𝓤 H A mem run) known₄ (to₄ n i) (and-then ! (load ! (from ! (stop !)) (look ! 15 refl)) (and-then ! (load ! (from ! (stop !)) (look ! 9 refl)) (and-then ! (load ! (from ! (stop !)) (look ! 7 refl)) (and-then ! (load ! (from ! (stop !)) (look ! 5 refl)) (and-then ! (load ! (from ! (stop !)) (look ! 1 refl)) (no-more !)))))) (λ v.
-        use1 W (later (some (λ (w : Why). ((‵ (flft κ q) ⊛ ‵ ftrue) ⊛ ‵ (Y.the-row .own w (v ∷ []))) ⊛ raw (ensured 𝓤 H A P.ended (P.clauses 𝓤 H A mem run) (κ, tt) (a₄ n i) tt w)))) (id⊢ 𝓤 _) $ await ! tt $ pick ! (λ w.
+        calls-at ! (fmOf 𝓤 H (W .laws) 𝓣) (CheckWith 𝓤 H A mem run) known₄ (to₄ n i) (and-then ! (load ! (from ! (stop !)) (look ! 15 refl))
+        (and-then ! (load ! (from ! (stop !)) (look ! 9 refl)) (and-then ! (load ! (from ! (stop !)) (look ! 7 refl))
+        (and-then ! (load ! (from ! (stop !)) (look ! 5 refl)) (and-then ! (load ! (from ! (stop !)) (look ! 1 refl)) (no-more !)))))) (λ v.
+        use1 W (later (some (λ (w : Why). ((‵ (flft κ q) ⊛ ‵ ftrue) ⊛ ‵ (Y.the-row .own w (v ∷ []))) ⊛ raw
+        (ensured 𝓤 H A P.ended (P.clauses 𝓤 H A mem run) (κ, tt) (a₄ n i) tt w)))) (id⊢ 𝓤 _) $ await ! tt $ pick ! (λ w.
         split ! $ move ! (1 ∷ []) $ use1 W (raw (fact 𝓤 (Said n i w))) (said₄ n i w) $ heard ! (Said n i w) (λ e. split ! $ move ! (1 ∷ []) $
         peeks ! Y.the-row (Is Y.the-row) (shows 𝓤 H A Y.the-row) w (v ∷ []) (λ gw.
         -- [the verdict; the token; _8; …; room for _0; …; the nulls; the column; the table; the bytes; the views]
         land ! (from ! (stop !)) (init ! 18 refl (EL.lawful Y.the-type Y′.the-laws 𝓤 H A W tt .typed w _ gw .0)) $
-        returns ! (look ! 18 refl) $ forget ! 2 refl $ forget ! 4 refl $ forget ! 6 refl $ forget ! 8 refl $ forget ! 10 refl $ forget ! 12 refl $ forget ! 14 refl $ forget ! 16 refl $ forget ! 18 refl $
-        move ! (18 ∷ 19 ∷ []) $ free1 ! $ move ! (16 ∷ 17 ∷ []) $ free1 ! $ move ! (14 ∷ 15 ∷ []) $ free1 ! $ move ! (12 ∷ 13 ∷ []) $ free1 ! $ move ! (10 ∷ 11 ∷ []) $ free1 ! $ move ! (8 ∷ 9 ∷ []) $ free1 ! $ move ! (6 ∷ 7 ∷ []) $ free1 ! $ move ! (4 ∷ 5 ∷ []) $ free1 ! $ move ! (2 ∷ 3 ∷ []) $ free1 ! $ free0 ! $
+        returns ! (look ! 18 refl) $ forget ! 2 refl $ forget ! 4 refl $ forget ! 6 refl $ forget ! 8 refl $ forget ! 10 refl $ forget ! 12 refl $
+        forget ! 14 refl $ forget ! 16 refl $ forget ! 18 refl $
+        move ! (18 ∷ 19 ∷ []) $ free1 ! $ move ! (16 ∷ 17 ∷ []) $ free1 ! $ move ! (14 ∷ 15 ∷ []) $ free1 ! $ move ! (12 ∷ 13 ∷ []) $ free1 ! $ move !
+        (10 ∷ 11 ∷ []) $ free1 ! $ move ! (8 ∷ 9 ∷ []) $ free1 ! $ move ! (6 ∷ 7 ∷ []) $ free1 ! $ move ! (4 ∷ 5 ∷ []) $ free1 ! $ move !
+        (2 ∷ 3 ∷ []) $ free1 ! $ free0 ! $
         by ! (exits w v (e (now y) (now t) is (stopped (now x) (now y) (now z) (now t) c n m i counted is f))))))))))))))))))))))))))))
 
 module _ {M : Type 1} (𝓤 : URA M) (H : Heap 𝓤) (A : Atoms 𝓤) (W : Given 𝓤 H A) (mem : Memory → SProp 𝓤) (run : Routine → Fun 𝓤) where
-  walks : (𝓣 : Tables 𝓤 H) → Triple 𝓤 (𝓣 .C #blocks·count) (Count 𝓤 H A mem run) → Triple 𝓤 (𝓣 .C #blocks·places-with) (PlacesWith 𝓤 H A mem run) → Triple 𝓤 (𝓣 .C #blocks·stop-at) (StopAt 𝓤 H A mem run) → Triple 𝓤 (𝓣 .C #blocks·check-with) (CheckWith 𝓤 H A mem run)
+  walks : (𝓣 : Tables 𝓤 H) → Triple 𝓤 (𝓣 .C #blocks·count) (Count 𝓤 H A mem run) → Triple 𝓤 (𝓣 .C #blocks·places-with) (PlacesWith 𝓤 H A mem run)
+      → Triple 𝓤 (𝓣 .C #blocks·stop-at) (StopAt 𝓤 H A mem run) → Triple 𝓤 (𝓣 .C #blocks·check-with) (CheckWith 𝓤 H A mem run)
       → Walks 𝓤 H A F.ended stayed (WpFn 𝓤 H (𝓣 .C) (𝓣 .Λ) code.function) (F.clauses 𝓤 H A mem run)
   walks 𝓣 known₁ known₂ known₃ known₄ = walked 𝓤 H A F.ended stayed (F.clauses 𝓤 H A mem run) (WpFn 𝓤 H (𝓣 .C) (𝓣 .Λ) code.function)
       (λ κs. (slice-vals, (slice-vals, (slice-vals, (slice-vals, (LL.vals K.the-type K′.the-laws, tt))))))
-      (λ κs. (shr-slice-tells (named 0) (κs .0) u8, (shr-slice-tells (named 0) (κs .0) u8, (shr-slice-tells (named 0) (κs .0) T.the-row, (shr-slice-tells (named 0) (κs .0) u8, (LL.tells K.the-type K′.the-laws, tt))))))
+      (λ κs. (
+        shr-slice-tells (named 0) (κs .0) u8,
+        (
+          shr-slice-tells (named 0) (κs .0) u8,
+          (
+            shr-slice-tells (named 0) (κs .0) T.the-row,
+            (shr-slice-tells (named 0) (κs .0) u8, (LL.tells K.the-type K′.the-laws, tt)),
+          ),
+        ),
+      ))
       (λ κs qs bounds a _ are. via 𝓤 _ (fst∗ 𝓤 _ (emp 𝓤)) (walk 𝓤 H A W mem run (κs .0) (qs .0) (a .0) (a .1 .0) (a .1 .1 .0) (a .1 .1 .1 .0) (a .1 .1 .1 .1 .0)
       (are .0 .0 .1) (are .1 .0 .0 .1) (are .1 .1 .0 .0 .1) (are .1 .1 .1 .0 .0 .1) (are .1 .1 .1 .1 .0) 𝓣 known₁ known₂ known₃ known₄))
 
 meets : {M : Type 1} (𝓤 : URA M) (H : Heap 𝓤) (A : Atoms 𝓤) (W : Given 𝓤 H A) (mem : Memory → SProp 𝓤) (run : Routine → Fun 𝓤) (𝓣 : Tables 𝓤 H)
-    → Triple 𝓤 (𝓣 .C #blocks·count) (Count 𝓤 H A mem run) → Triple 𝓤 (𝓣 .C #blocks·places-with) (PlacesWith 𝓤 H A mem run) → Triple 𝓤 (𝓣 .C #blocks·stop-at) (StopAt 𝓤 H A mem run) → Triple 𝓤 (𝓣 .C #blocks·check-with) (CheckWith 𝓤 H A mem run)
+    → Triple 𝓤 (𝓣 .C #blocks·count) (Count 𝓤 H A mem run) → Triple 𝓤 (𝓣 .C #blocks·places-with) (PlacesWith 𝓤 H A mem run)
+    → Triple 𝓤 (𝓣 .C #blocks·stop-at) (StopAt 𝓤 H A mem run) → Triple 𝓤 (𝓣 .C #blocks·check-with) (CheckWith 𝓤 H A mem run)
     → Meets 𝓤 H A F.signature (WpFn 𝓤 H (𝓣 .C) (𝓣 .Λ) code.function) (F.spec 𝓤 H A mem run)
-meets 𝓤 H A W mem run 𝓣 known₁ known₂ known₃ known₄ = walk-meets 𝓤 H A F.ended stayed W (goes-none-slice 𝓤 H A W 1 (0 ∷ []) tt (plain (λ _. u8)) yes, (goes-none-slice 𝓤 H A W 1 (0 ∷ []) tt (plain (λ _. u8)) yes, (goes-none-slice 𝓤 H A W 1 (0 ∷ []) tt (plain (λ _. T.the-row)) yes, (goes-none-slice 𝓤 H A W 1 (0 ∷ []) tt (plain (λ _. u8)) yes, (goes-none 𝓤 H A W 1 (λ _. K.the-row) yes (λ κs x f. refl), tt)))))
-    (F.clauses 𝓤 H A mem run) (WpFn 𝓤 H (𝓣 .C) (𝓣 .Λ) code.function) (WpFn-mono 𝓤 H (W .laws) 𝓣 code.function) (walks 𝓤 H A W mem run 𝓣 known₁ known₂ known₃ known₄)
+meets 𝓤 H A W mem run 𝓣 known₁ known₂ known₃ known₄ = walk-meets 𝓤 H A F.ended stayed W (
+  goes-none-slice 𝓤 H A W 1 (0 ∷ []) tt (plain (λ _. u8)) yes,
+  (
+    goes-none-slice 𝓤 H A W 1 (0 ∷ []) tt (plain (λ _. u8)) yes,
+    (
+      goes-none-slice 𝓤 H A W 1 (0 ∷ []) tt (plain (λ _. T.the-row)) yes,
+      (goes-none-slice 𝓤 H A W 1 (0 ∷ []) tt (plain (λ _. u8)) yes, (goes-none 𝓤 H A W 1 (λ _. K.the-row) yes (λ κs x f. refl), tt)),
+    ),
+  ),
+)
+    (F.clauses 𝓤 H A mem run) (WpFn 𝓤 H (𝓣 .C) (𝓣 .Λ) code.function) (WpFn-mono 𝓤 H (W .laws) 𝓣 code.function) (walks 𝓤 H A W mem run 𝓣 known₁ known₂
+    known₃ known₄)
 
 pub check-spec : {M : Type 1} → stated.statement M
 unfolding code.routine tablesOf

@@ -64,7 +64,17 @@ use Rattle.blocks.proofs.holds.Statement as stated
 use Rattle.blocks.proofs.holds.Code as code
 
 abbrev stayed : Stays (F.ended .signature .params) (F.ended .kept)
-stayed = (stay-none-slice (0 ∷ []) tt (plain (λ _. u8)) yes, (stay-none-slice (0 ∷ []) tt (plain (λ _. u8)) yes, (stay-none-slice (0 ∷ []) tt (plain (λ _. T.the-row)) yes, (stay-none (λ _. K.the-row) yes, (stay-none (λ _. usize) yes, (stay-none (λ _. usize) yes, tt))))))
+stayed = (
+  stay-none-slice (0 ∷ []) tt (plain (λ _. u8)) yes,
+  (
+    stay-none-slice (0 ∷ []) tt (plain (λ _. u8)) yes,
+    (
+      stay-none-slice (0 ∷ []) tt
+          (plain (λ _. T.the-row)) yes,
+      (stay-none (λ _. K.the-row) yes, (stay-none (λ _. usize) yes, (stay-none (λ _. usize) yes, tt))),
+    ),
+  ),
+)
 
 -- a record's machine values
 abbrev vals : Block → List Val
@@ -93,7 +103,8 @@ module _ {M : Type 1} (𝓤 : URA M) (H : Heap 𝓤) (A : Atoms 𝓤) (mem : Mem
 
 module _ {M : Type 1} (𝓤 : URA M) (H : Heap 𝓤) (A : Atoms 𝓤) (W : Given 𝓤 H A) (mem : Memory → SProp 𝓤) (run : Routine → Fun 𝓤) (κ : Lft) (q : Share)
     (x y : RefT (List ℕ)) (t : RefT (List Block)) (c : Column) (places k : ℕ)
-    (gx : Room u8 (length (now x))) (gy : Room u8 (length (now y))) (gt : Room T.the-row (length (now t))) (gc : Is K.the-row c (column-val c ∷ [])) (gn : places < 2 ^ 64) (gk : k < 2 ^ 64) where
+    (gx : Room u8 (length (now x))) (gy : Room u8 (length (now y))) (gt : Room T.the-row (length (now t))) (gc : Is K.the-row c (column-val c ∷ []))
+    (gn : places < 2 ^ 64) (gk : k < 2 ^ 64) where
   abbrev a : RefT (List ℕ) × (RefT (List ℕ) × (RefT (List Block) × (Column × (ℕ × (ℕ × Unit {0})))))
   a = (x, (y, (t, (c, (places, (k, tt))))))
 
@@ -101,7 +112,8 @@ module _ {M : Type 1} (𝓤 : URA M) (H : Heap 𝓤) (A : Atoms 𝓤) (W : Given
   at = (slice-vals x, (slice-vals y, (slice-vals t, (column-val c ∷ [], (vint w64 places ∷ [], (vint w64 k ∷ [], tt))))))
 
   abbrev passed : List Val
-  passed = sliceVal (x .ptr) (length (now x)) ∷ sliceVal (y .ptr) (length (now y)) ∷ sliceVal (t .ptr) (length (now t)) ∷ column-val c ∷ vint w64 places ∷ vint w64 k ∷ []
+  passed = sliceVal (x .ptr) (length (now x)) ∷ sliceVal (y .ptr) (length (now y)) ∷ sliceVal (t .ptr) (length (now t)) ∷ column-val c ∷ vint w64
+      places ∷ vint w64 k ∷ []
 
   abbrev Post : Val → SProp 𝓤
   Post = walkOf 𝓤 H A F.ended stayed (F.clauses 𝓤 H A mem run) .post (((κ, tt), (q, tt), tt, a, at), tt)
@@ -126,7 +138,8 @@ module _ {M : Type 1} (𝓤 : URA M) (H : Heap 𝓤) (A : Atoms 𝓤) (W : Given
   asked₁ : ent 𝓤 (⋆ 𝓤 H A ((‵ (flft κ q) ⊛ ‵ ftrue) ∷ ‵ (Own x) ∷ [])) (PlaceOf 𝓤 H A mem run .pre to₁)
   asked₁ =
       qed W ((‵ (flft κ q) ⊛ ‵ ftrue) ∷ ‵ (Own x) ∷ []) ∵ nothing ! $ owned ! usize (Is usize) (uint-makes 𝓤 H A W w64) k _ (refl, gk) $ fjoin ! $
-      owned ! K.the-row (Is K.the-row) (LL.makes K.the-type K′.the-plain 𝓤 H A) c _ gc $ fjoin ! $ move ! (2 ∷ 0 ∷ []) $ fjoin ! $ move ! (1 ∷ 0 ∷ []) $ join ! $ frame ! $ done !
+      owned ! K.the-row (Is K.the-row) (LL.makes K.the-type K′.the-plain 𝓤 H A) c _ gc $ fjoin ! $ move ! (2 ∷ 0 ∷ []) $ fjoin ! $ move ! (1 ∷ 0 ∷ [])
+      $ join ! $ frame ! $ done !
 
   said₁ : (p : ℕ) → ent 𝓤 (ensured 𝓤 H A G.ended (G.clauses 𝓤 H A mem run) (κ, tt) a₁ tt p) (fact 𝓤 (Asks (now x) c k p))
   said₁ p = exE 𝓤 _ (λ ws. snd∗ 𝓤 (sem 𝓤 H A (lasts G.ended (κ, tt) a₁ ws)) (fact 𝓤 (Asks (now x) c k p)))
@@ -141,8 +154,10 @@ module _ {M : Type 1} (𝓤 : URA M) (H : Heap 𝓤) (A : Atoms 𝓤) (W : Given
 
     asked₂ : p < 2 ^ 64 → ent 𝓤 (⋆ 𝓤 H A ((‵ (flft κ q) ⊛ ‵ ftrue) ∷ ‵ Tb ∷ [])) (BlockOr 𝓤 H A mem run .pre to₂)
     asked₂ gp =
-        qed W ((‵ (flft κ q) ⊛ ‵ ftrue) ∷ ‵ Tb ∷ []) ∵ nothing ! $ owned ! T.the-row (Is T.the-row) (LL.makes T.the-type T′.the-plain 𝓤 H A) none _ none-is $ fjoin ! $
-        owned ! usize (Is usize) (uint-makes 𝓤 H A W w64) p _ (refl, gp) $ fjoin ! $ move ! (2 ∷ 0 ∷ []) $ fjoin ! $ move ! (1 ∷ 0 ∷ []) $ join ! $ frame ! $ done !
+        qed W ((‵ (flft κ q) ⊛ ‵ ftrue) ∷ ‵ Tb ∷ []) ∵ nothing ! $ owned ! T.the-row (Is T.the-row) (LL.makes T.the-type T′.the-plain 𝓤 H A) none _
+        none-is $ fjoin ! $
+        owned ! usize (Is usize) (uint-makes 𝓤 H A W w64) p _ (refl, gp) $ fjoin ! $ move ! (2 ∷ 0 ∷ []) $ fjoin ! $ move ! (1 ∷ 0 ∷ []) $ join ! $
+        frame ! $ done !
 
     said₂ : (b : Block) → ent 𝓤 (ensured 𝓤 H A O.ended (O.clauses 𝓤 H A mem run) (κ, tt) a₂ tt b) (fact 𝓤 (b ≡ getD (now t) p none))
     said₂ b = exE 𝓤 _ (λ ws. snd∗ 𝓤 (sem 𝓤 H A (lasts O.ended (κ, tt) a₂ ws)) (fact 𝓤 (b ≡ getD (now t) p none)))
@@ -157,8 +172,10 @@ module _ {M : Type 1} (𝓤 : URA M) (H : Heap 𝓤) (A : Atoms 𝓤) (W : Given
 
     asked₃ : ent 𝓤 (⋆ 𝓤 H A ((‵ (flft κ q) ⊛ ‵ ftrue) ∷ ‵ (Own x) ∷ ‵ (Own y) ∷ [])) (Judge 𝓤 H A mem run .pre to₃)
     asked₃ =
-        qed W ((‵ (flft κ q) ⊛ ‵ ftrue) ∷ ‵ (Own x) ∷ ‵ (Own y) ∷ []) ∵ nothing ! $ owned ! T.the-row (Is T.the-row) (LL.makes T.the-type T′.the-plain 𝓤 H A) b _ gb $ fjoin ! $
-        owned ! usize (Is usize) (uint-makes 𝓤 H A W w64) k _ (refl, gk) $ fjoin ! $ owned ! usize (Is usize) (uint-makes 𝓤 H A W w64) places _ (refl, gn) $ fjoin ! $
+        qed W ((‵ (flft κ q) ⊛ ‵ ftrue) ∷ ‵ (Own x) ∷ ‵ (Own y) ∷ []) ∵ nothing ! $ owned ! T.the-row (Is T.the-row) (LL.makes T.the-type T′.the-plain
+        𝓤 H A) b _ gb $ fjoin ! $
+        owned ! usize (Is usize) (uint-makes 𝓤 H A W w64) k _ (refl, gk) $ fjoin ! $ owned ! usize (Is usize) (uint-makes 𝓤 H A W w64) places _
+        (refl, gn) $ fjoin ! $
         owned ! K.the-row (Is K.the-row) (LL.makes K.the-type K′.the-plain 𝓤 H A) c _ gc $ fjoin ! $
         move ! (3 ∷ 0 ∷ []) $ fjoin ! $ move ! (2 ∷ 0 ∷ []) $ fjoin ! $ move ! (1 ∷ 0 ∷ []) $ join ! $ frame ! $ done !
 
@@ -172,62 +189,113 @@ module _ {M : Type 1} (𝓤 : URA M) (H : Heap 𝓤) (A : Atoms 𝓤) (W : Given
       → ent 𝓤 (⋆ 𝓤 H A (‵ (Boolean .own r (u ∷ [])) ∷ (‵ (flft κ q) ⊛ ‵ ftrue) ∷ ‵ Tb ∷ ‵ Rest ∷ ‵ (Own y) ∷ ‵ (Own x) ∷ [])) (Post u)
   exits r u e =
       qed W (‵ (Boolean .own r (u ∷ [])) ∷ (‵ (flft κ q) ⊛ ‵ ftrue) ∷ ‵ Tb ∷ ‵ Rest ∷ ‵ (Own y) ∷ ‵ (Own x) ∷ []) ∵
-      suffices ! _ (ends-at 𝓤 H A F.ended stayed (F.clauses 𝓤 H A mem run) W (((κ, tt), (q, tt), tt, a, at), tt) u r (tt, (tt, (tt, (tt, (tt, (tt, tt)))))) (tt, (tt, (tt, (tt, (tt, (tt, tt))))))) $ says ! e $
+      suffices ! _ (ends-at 𝓤 H A F.ended stayed (F.clauses 𝓤 H A mem run) W (((κ, tt), (q, tt), tt, a, at), tt) u r
+      (tt, (tt, (tt, (tt, (tt, (tt, tt)))))) (tt, (tt, (tt, (tt, (tt, (tt, tt))))))) $ says ! e $
       move ! (1 ∷ []) $ frame ! $ move ! (1 ∷ 2 ∷ []) $ fjoin ! $ move ! (2 ∷ 0 ∷ []) $ fjoin ! $ move ! (2 ∷ 0 ∷ []) $ fjoin ! $ frame ! $ done !
 
-  module _ (C : Calls 𝓤 H) (Λ : Loops 𝓤 H) (fm : FmC 𝓤 H (W .laws) C) (known₁ : Triple 𝓤 (C #blocks·place-of) (PlaceOf 𝓤 H A mem run)) (known₂ : Triple 𝓤 (C #blocks·block-or) (BlockOr 𝓤 H A mem run)) (known₃ : Triple 𝓤 (C #blocks·judge) (Judge 𝓤 H A mem run)) where
+  module _ (C : Calls 𝓤 H) (Λ : Loops 𝓤 H) (fm : FmC 𝓤 H (W .laws) C) (known₁ : Triple 𝓤 (C #blocks·place-of) (PlaceOf 𝓤 H A mem run))
+      (known₂ : Triple 𝓤 (C #blocks·block-or) (BlockOr 𝓤 H A mem run)) (known₃ : Triple 𝓤 (C #blocks·judge) (Judge 𝓤 H A mem run)) where
     walk : ent 𝓤 (onEntry 𝓤 H A F.signature (κ, tt) (q, tt) a at) (WpFn 𝓤 H C Λ code.function passed Post)
     walk =
-        qed W ((‵ (flft κ q) ⊛ ‵ ftrue) ∷ ‵ (owns (ShrSlice (named 0) κ u8 ∷ ShrSlice (named 0) κ u8 ∷ ShrSlice (named 0) κ T.the-row ∷ K.the-row ∷ usize ∷ usize ∷ []) a at) ∷ []) ∵
+        qed W ((‵ (flft κ q) ⊛ ‵ ftrue) ∷ ‵ (owns (ShrSlice (named 0) κ u8 ∷ ShrSlice (named 0) κ u8 ∷ ShrSlice (named 0) κ T.the-row ∷ K.the-row
+        ∷ usize ∷ usize ∷ []) a at) ∷ []) ∵
         -- [the token; the table, twice; the numbers; the bytes, twice; the views, three times]
-        move ! (1 ∷ []) $ fsplit ! $ use1 W (‵ (Own x) ⊛ ‵ (Own x)) (shr-slice-copy 𝓤 H A W (named 0) κ u8 .twice x (slice-vals x)) $ split ! $ use1 W (‵ (Own x) ⊛ ‵ (Own x)) (shr-slice-copy 𝓤 H A W (named 0) κ u8 .twice x (slice-vals x)) $ split ! $
+        move ! (1 ∷ []) $ fsplit ! $ use1 W (‵ (Own x) ⊛ ‵ (Own x)) (shr-slice-copy 𝓤 H A W (named 0) κ u8 .twice x (slice-vals x)) $ split ! $ use1 W
+        (‵ (Own x) ⊛ ‵ (Own x)) (shr-slice-copy 𝓤 H A W (named 0) κ u8 .twice x (slice-vals x)) $ split ! $
         move ! (3 ∷ []) $ fsplit ! $ use1 W (‵ (Own y) ⊛ ‵ (Own y)) (shr-slice-copy 𝓤 H A W (named 0) κ u8 .twice y (slice-vals y)) $ split ! $
         move ! (2 ∷ []) $ fsplit ! $ use1 W (‵ Tb ⊛ ‵ Tb) (shr-slice-copy 𝓤 H A W (named 0) κ T.the-row .twice t (slice-vals t)) $ split ! $ move ! (8 ∷ []) $
         enter ! C Λ code.function passed _ $
-        alloc1 ! (λ l₀. alloc1 ! (λ l₁. alloc1 ! (λ l₂. alloc1 ! (λ l₃. alloc1 ! (λ l₄. alloc1 ! (λ l₅. alloc1 ! (λ l₆. alloc1 ! (λ l₇. alloc1 ! (λ l₈. alloc1 ! (λ l₉. alloc0 ! $ params1 ! $
-        pass1 ! (init ! 16 refl (tt, (tt, (record { fits = gx .0 }, tt)))) $ pass1 ! (init ! 14 refl (tt, (tt, (record { fits = gy .0 }, tt)))) $ pass1 ! (init ! 12 refl (tt, (tt, (record { fits = gt .0 }, tt)))) $
-        pass1 ! (init ! 10 refl (LL.lawful K.the-type K′.the-laws 𝓤 H A W .typed c _ gc .0)) $ pass1 ! (init ! 8 refl (tt, record { fits = gn })) $ pass1 ! (init ! 6 refl (tt, record { fits = gk })) $ pass0 ! $
-        -- [_9; …; _8; …; _7; …; _6; …; _5; …; _4; …; _3; …; _2; …; _1; …; _0; …; the token; the table, twice; the numbers; the bytes, twice; the views, three times]
+        alloc1 ! (λ l₀. alloc1 !
+        (λ l₁. alloc1 ! (λ l₂. alloc1 !
+        (λ l₃. alloc1 ! (λ l₄. alloc1 ! (λ l₅. alloc1 ! (λ l₆. alloc1 ! (λ l₇. alloc1 ! (λ l₈. alloc1 ! (λ l₉. alloc0 ! $ params1 ! $
+        pass1 ! (init ! 16 refl (tt, (tt, (record { fits = gx .0 }, tt)))) $ pass1 ! (init ! 14 refl (tt, (tt, (record { fits = gy .0 }, tt)))) $
+        pass1 ! (init ! 12 refl (tt, (tt, (record { fits = gt .0 }, tt)))) $
+        pass1 ! (init ! 10 refl (LL.lawful K.the-type K′.the-laws 𝓤 H A W .typed c _ gc .0)) $ pass1 ! (init ! 8 refl (tt, record { fits = gn })) $
+        pass1 ! (init ! 6 refl (tt, record { fits = gk })) $ pass0 ! $
+        -- [_9; …; _8; …; _7; …; _6; …; _5; …; _4; …; _3; …; _2; …; _1; …; _0; …; the token; the table, twice; the numbers; the bytes, twice; the
+        -- views, three times]
         move ! (20 ∷ 26 ∷ []) $ use2 W (raw (PlaceOf 𝓤 H A mem run .pre to₁)) asked₁ $
-        calls-at ! fm (PlaceOf 𝓤 H A mem run) known₁ to₁ (and-then ! (load ! (from ! (stop !)) (look ! 17 refl)) (and-then ! (load ! (from ! (stop !)) (look ! 11 refl)) (and-then ! (load ! (from ! (stop !)) (look ! 7 refl)) (no-more !)))) (λ u.
-        use1 W (later (some (λ (p : ℕ). ((‵ (flft κ q) ⊛ ‵ ftrue) ⊛ ‵ (usize .own p (u ∷ []))) ⊛ raw (ensured 𝓤 H A G.ended (G.clauses 𝓤 H A mem run) (κ, tt) a₁ tt p)))) (id⊢ 𝓤 _) $ await ! tt $ pick ! (λ p.
+        calls-at ! fm (PlaceOf 𝓤 H A mem run) known₁ to₁ (and-then ! (load ! (from ! (stop !)) (look ! 17 refl))
+        (and-then ! (load ! (from ! (stop !)) (look ! 11 refl)) (and-then ! (load ! (from ! (stop !)) (look ! 7 refl)) (no-more !)))) (λ u.
+        use1 W (later (some (λ (p : ℕ). ((‵ (flft κ q) ⊛ ‵ ftrue) ⊛ ‵ (usize .own p (u ∷ []))) ⊛ raw (ensured 𝓤 H A G.ended (G.clauses 𝓤 H A mem run)
+        (κ, tt) a₁ tt p)))) (id⊢ 𝓤 _) $ await ! tt $ pick ! (λ p.
         split ! $ move ! (1 ∷ []) $ use1 W (raw (fact 𝓤 (Asks (now x) c k p))) (said₁ p) $ heard ! (Asks (now x) c k p) (λ e₁. split ! $ move ! (1 ∷ []) $
         peeks ! usize (Is usize) (shows 𝓤 H A usize) p (u ∷ []) (λ gp.
         -- [the number; the token; _9; …]
-        land ! (from ! (stop !)) (init ! 6 refl (uint-lawful 𝓤 H A W w64 .typed p _ gp .0)) $ rewrite ! 6 (λ (w : Val). ‵ (fat fullShare (tyInt w64) l₇ 0 w)) (ap only (gp .0)) refl $ drop ! $
-        assigns ! (agg ! (and-then ! (lit ! tt) (and-then ! (lit ! tt) (no-more !)))) (from ! (stop !)) (init ! 1 refl (LL.lawful T.the-type T′.the-laws 𝓤 H A W .typed none (vals none) none-is .0)) $
+        land ! (from ! (stop !)) (init ! 6 refl (uint-lawful 𝓤 H A W w64 .typed p _ gp .0)) $ rewrite ! 6
+        (λ (w : Val). ‵ (fat fullShare (tyInt w64) l₇ 0 w)) (ap only (gp .0)) refl $ drop ! $
+        assigns ! (agg ! (and-then ! (lit ! tt) (and-then ! (lit ! tt) (no-more !)))) (from ! (stop !))
+        (init ! 1 refl (LL.lawful T.the-type T′.the-laws 𝓤 H A W .typed none (vals none) none-is .0)) $
         move ! (0 ∷ 21 ∷ []) $ use2 W (raw (BlockOr 𝓤 H A mem run .pre (to₂ p))) (asked₂ p (gp .1)) $
-        calls-at ! fm (BlockOr 𝓤 H A mem run) known₂ (to₂ p) (and-then ! (load ! (from ! (stop !)) (look ! 13 refl)) (and-then ! (load ! (from ! (stop !)) (look ! 5 refl)) (and-then ! (load ! (from ! (stop !)) (look ! 1 refl)) (no-more !)))) (λ u′.
-        use1 W (later (some (λ (b : Block). ((‵ (flft κ q) ⊛ ‵ ftrue) ⊛ ‵ (T.the-row .own b (u′ ∷ []))) ⊛ raw (ensured 𝓤 H A O.ended (O.clauses 𝓤 H A mem run) (κ, tt) (a₂ p) tt b)))) (id⊢ 𝓤 _) $ await ! tt $ pick ! (λ b.
-        split ! $ move ! (1 ∷ []) $ use1 W (raw (fact 𝓤 (b ≡ getD (now t) p none))) (said₂ p b) $ heard ! (b ≡ getD (now t) p none) (λ e₂. split ! $ move ! (1 ∷ []) $
+        calls-at ! fm (BlockOr 𝓤 H A mem run) known₂ (to₂ p) (and-then ! (load ! (from ! (stop !)) (look ! 13 refl))
+        (and-then ! (load ! (from ! (stop !)) (look ! 5 refl)) (and-then ! (load ! (from ! (stop !)) (look ! 1 refl)) (no-more !)))) (λ u′.
+        use1 W (later (some (λ (b : Block). ((‵ (flft κ q) ⊛ ‵ ftrue) ⊛ ‵ (T.the-row .own b (u′ ∷ []))) ⊛ raw
+        (ensured 𝓤 H A O.ended (O.clauses 𝓤 H A mem run) (κ, tt) (a₂ p) tt b)))) (id⊢ 𝓤 _) $ await ! tt $ pick ! (λ b.
+        split ! $ move ! (1 ∷ []) $ use1 W (raw (fact 𝓤 (b ≡ getD (now t) p none))) (said₂ p b) $ heard ! (b ≡ getD (now t) p none)
+        (λ e₂. split ! $ move ! (1 ∷ []) $
         peeks ! T.the-row (Is T.the-row) (shows 𝓤 H A T.the-row) b (u′ ∷ []) (λ gb.
         land ! (from ! (stop !)) (init ! 4 refl (LL.lawful T.the-type T′.the-laws 𝓤 H A W .typed b _ gb .0)) $ drop ! $
         -- [the token; _9; …; the table; the numbers; the bytes, twice; the views, twice]
         move ! (0 ∷ 25 ∷ 23 ∷ []) $ use3 W (raw (Judge 𝓤 H A mem run .pre (to₃ b u′ gb))) (asked₃ b u′ gb) $
-        calls-at ! fm (Judge 𝓤 H A mem run) known₃ (to₃ b u′ gb) (and-then ! (load ! (from ! (stop !)) (look ! 17 refl)) (and-then ! (load ! (from ! (stop !)) (look ! 15 refl)) (and-then ! (load ! (from ! (stop !)) (look ! 11 refl)) (and-then ! (load ! (from ! (stop !)) (look ! 9 refl)) (and-then ! (load ! (from ! (stop !)) (look ! 7 refl)) (and-then ! (load ! (from ! (stop !)) (look ! 3 refl)) (no-more !))))))) (λ w.
-        use1 W (later (some (λ (r : Bool). ((‵ (flft κ q) ⊛ ‵ ftrue) ⊛ ‵ (Boolean .own r (w ∷ []))) ⊛ raw (ensured 𝓤 H A N.ended (N.clauses 𝓤 H A mem run) (κ, tt) (a₃ b u′ gb) tt r)))) (id⊢ 𝓤 _) $ await ! tt $ pick ! (λ r.
+        calls-at ! fm (Judge 𝓤 H A mem run) known₃ (to₃ b u′ gb) (and-then ! (load ! (from ! (stop !)) (look ! 17 refl))
+        (and-then ! (load ! (from ! (stop !)) (look ! 15 refl)) (and-then ! (load ! (from ! (stop !)) (look ! 11 refl))
+        (and-then ! (load ! (from ! (stop !)) (look ! 9 refl)) (and-then ! (load ! (from ! (stop !)) (look ! 7 refl))
+        (and-then ! (load ! (from ! (stop !)) (look ! 3 refl)) (no-more !))))))) (λ w.
+        use1 W (later (some (λ (r : Bool). ((‵ (flft κ q) ⊛ ‵ ftrue) ⊛ ‵ (Boolean .own r (w ∷ []))) ⊛ raw
+        (ensured 𝓤 H A N.ended (N.clauses 𝓤 H A mem run) (κ, tt) (a₃ b u′ gb) tt r)))) (id⊢ 𝓤 _) $ await ! tt $ pick ! (λ r.
         split ! $ move ! (1 ∷ []) $ use1 W (raw (fact 𝓤 (Said b u′ gb r))) (said₃ b u′ gb r) $ heard ! (Said b u′ gb r) (λ e₃. split ! $ move ! (1 ∷ []) $
         peeks ! Boolean (Is Boolean) (shows 𝓤 H A Boolean) r (w ∷ []) (λ gr.
         -- [the answer; the token; _9; …; room for _0; …; the table; the numbers; the bytes; the views]
         land ! (from ! (stop !)) (init ! 20 refl (bool-lawful 𝓤 H A W .typed r _ gr .0)) $
-        returns ! (look ! 20 refl) $ forget ! 2 refl $ forget ! 4 refl $ forget ! 6 refl $ forget ! 8 refl $ forget ! 10 refl $ forget ! 12 refl $ forget ! 14 refl $ forget ! 16 refl $ forget ! 18 refl $ forget ! 20 refl $
-        move ! (20 ∷ 21 ∷ []) $ free1 ! $ move ! (18 ∷ 19 ∷ []) $ free1 ! $ move ! (16 ∷ 17 ∷ []) $ free1 ! $ move ! (14 ∷ 15 ∷ []) $ free1 ! $ move ! (12 ∷ 13 ∷ []) $ free1 ! $ move ! (10 ∷ 11 ∷ []) $ free1 ! $ move ! (8 ∷ 9 ∷ []) $ free1 ! $ move ! (6 ∷ 7 ∷ []) $ free1 ! $ move ! (4 ∷ 5 ∷ []) $ free1 ! $ move ! (2 ∷ 3 ∷ []) $ free1 ! $ free0 ! $
+        returns ! (look ! 20 refl) $ forget ! 2 refl $ forget ! 4 refl $ forget ! 6 refl $ forget ! 8 refl $ forget ! 10 refl $ forget ! 12 refl $
+        forget ! 14 refl $ forget ! 16 refl $ forget ! 18 refl $ forget ! 20 refl $
+        move ! (20 ∷ 21 ∷ []) $ free1 ! $ move ! (18 ∷ 19 ∷ []) $ free1 ! $ move ! (16 ∷ 17 ∷ []) $ free1 ! $ move ! (14 ∷ 15 ∷ []) $ free1 ! $ move !
+        (12 ∷ 13 ∷ []) $ free1 ! $ move ! (10 ∷ 11 ∷ []) $ free1 ! $ move ! (8 ∷ 9 ∷ []) $ free1 ! $ move ! (6 ∷ 7 ∷ []) $ free1 ! $ move !
+        (4 ∷ 5 ∷ []) $ free1 ! $ move ! (2 ∷ 3 ∷ []) $ free1 ! $ free0 ! $
         by ! (exits r w (e₃ (now t) p e₁ e₂))))))))))))))))))))))))
 
 module _ {M : Type 1} (𝓤 : URA M) (H : Heap 𝓤) (A : Atoms 𝓤) (W : Given 𝓤 H A) (mem : Memory → SProp 𝓤) (run : Routine → Fun 𝓤) where
-  walks : (C : Calls 𝓤 H) (Λ : Loops 𝓤 H) → FmC 𝓤 H (W .laws) C → Triple 𝓤 (C #blocks·place-of) (PlaceOf 𝓤 H A mem run) → Triple 𝓤 (C #blocks·block-or) (BlockOr 𝓤 H A mem run) → Triple 𝓤 (C #blocks·judge) (Judge 𝓤 H A mem run)
+  walks : (C : Calls 𝓤 H) (Λ : Loops 𝓤 H) → FmC 𝓤 H (W .laws) C → Triple 𝓤 (C #blocks·place-of) (PlaceOf 𝓤 H A mem run)
+      → Triple 𝓤 (C #blocks·block-or) (BlockOr 𝓤 H A mem run) → Triple 𝓤 (C #blocks·judge) (Judge 𝓤 H A mem run)
       → Walks 𝓤 H A F.ended stayed (WpFn 𝓤 H C Λ code.function) (F.clauses 𝓤 H A mem run)
   walks C Λ fm known₁ known₂ known₃ = walked 𝓤 H A F.ended stayed (F.clauses 𝓤 H A mem run) (WpFn 𝓤 H C Λ code.function)
       (λ κs. (slice-vals, (slice-vals, (slice-vals, (LL.vals K.the-type K′.the-laws, (uint-vals w64, (uint-vals w64, tt)))))))
-      (λ κs. (shr-slice-tells (named 0) (κs .0) u8, (shr-slice-tells (named 0) (κs .0) u8, (shr-slice-tells (named 0) (κs .0) T.the-row, (LL.tells K.the-type K′.the-laws, (uint-tells w64, (uint-tells w64, tt)))))))
-      (λ κs qs bounds a _ are. via 𝓤 _ (fst∗ 𝓤 _ (emp 𝓤)) (walk 𝓤 H A W mem run (κs .0) (qs .0) (a .0) (a .1 .0) (a .1 .1 .0) (a .1 .1 .1 .0) (a .1 .1 .1 .1 .0) (a .1 .1 .1 .1 .1 .0)
+      (λ κs. (
+        shr-slice-tells (named 0) (κs .0) u8,
+        (
+          shr-slice-tells (named 0) (κs .0) u8,
+          (
+            shr-slice-tells (named 0) (κs .0) T.the-row,
+            (LL.tells K.the-type K′.the-laws, (uint-tells w64, (uint-tells w64, tt))),
+          ),
+        ),
+      ))
+      (λ κs qs bounds a _ are. via 𝓤 _ (fst∗ 𝓤 _ (emp 𝓤)) (walk 𝓤 H A W mem run (κs .0) (qs .0) (a .0) (a .1 .0) (a .1 .1 .0) (a .1 .1 .1 .0)
+      (a .1 .1 .1 .1 .0) (a .1 .1 .1 .1 .1 .0)
       (are .0 .0 .1) (are .1 .0 .0 .1) (are .1 .1 .0 .0 .1) (are .1 .1 .1 .0) (are .1 .1 .1 .1 .0 .1) (are .1 .1 .1 .1 .1 .0 .1) C Λ fm known₁ known₂ known₃))
 
 meets : {M : Type 1} (𝓤 : URA M) (H : Heap 𝓤) (A : Atoms 𝓤) (W : Given 𝓤 H A) (mem : Memory → SProp 𝓤) (run : Routine → Fun 𝓤) (𝓣 : Tables 𝓤 H)
-    → Triple 𝓤 (𝓣 .C #blocks·place-of) (PlaceOf 𝓤 H A mem run) → Triple 𝓤 (𝓣 .C #blocks·block-or) (BlockOr 𝓤 H A mem run) → Triple 𝓤 (𝓣 .C #blocks·judge) (Judge 𝓤 H A mem run)
+    → Triple 𝓤 (𝓣 .C #blocks·place-of) (PlaceOf 𝓤 H A mem run) → Triple 𝓤 (𝓣 .C #blocks·block-or) (BlockOr 𝓤 H A mem run)
+    → Triple 𝓤 (𝓣 .C #blocks·judge) (Judge 𝓤 H A mem run)
     → Meets 𝓤 H A F.signature (WpFn 𝓤 H (𝓣 .C) (𝓣 .Λ) code.function) (F.spec 𝓤 H A mem run)
-meets 𝓤 H A W mem run 𝓣 known₁ known₂ known₃ = walk-meets 𝓤 H A F.ended stayed W (goes-none-slice 𝓤 H A W 1 (0 ∷ []) tt (plain (λ _. u8)) yes, (goes-none-slice 𝓤 H A W 1 (0 ∷ []) tt (plain (λ _. u8)) yes, (goes-none-slice 𝓤 H A W 1 (0 ∷ []) tt (plain (λ _. T.the-row)) yes, (goes-none 𝓤 H A W 1 (λ _. K.the-row) yes (λ κs x f. refl), (goes-none 𝓤 H A W 1 (λ _. usize) yes (λ κs x f. refl), (goes-none 𝓤 H A W 1 (λ _. usize) yes (λ κs x f. refl), tt))))))
-    (F.clauses 𝓤 H A mem run) (WpFn 𝓤 H (𝓣 .C) (𝓣 .Λ) code.function) (WpFn-mono 𝓤 H (W .laws) 𝓣 code.function) (walks 𝓤 H A W mem run (𝓣 .C) (𝓣 .Λ) (fmOf 𝓤 H (W .laws) 𝓣) known₁ known₂ known₃)
+meets 𝓤 H A W mem run 𝓣 known₁ known₂ known₃ = walk-meets 𝓤 H A F.ended stayed W (
+  goes-none-slice 𝓤 H A W 1 (0 ∷ []) tt (plain (λ _. u8)) yes,
+  (
+    goes-none-slice 𝓤 H A W 1 (0 ∷ []) tt (plain (λ _. u8)) yes,
+    (
+      goes-none-slice 𝓤 H A W 1 (0 ∷ []) tt (plain (λ _. T.the-row)) yes,
+      (
+        goes-none 𝓤 H A W 1 (λ _. K.the-row) yes (λ κs x f. refl),
+        (
+          goes-none 𝓤 H A W 1 (λ _. usize) yes (λ κs x f. refl),
+          (goes-none 𝓤 H A W 1 (λ _. usize) yes (λ κs x f. refl), tt),
+        ),
+      ),
+    ),
+  ),
+)
+    (F.clauses 𝓤 H A mem run) (WpFn 𝓤 H (𝓣 .C) (𝓣 .Λ) code.function) (WpFn-mono 𝓤 H (W .laws) 𝓣 code.function) (walks 𝓤 H A W mem run (𝓣 .C) (𝓣 .Λ)
+    (fmOf 𝓤 H (W .laws) 𝓣) known₁ known₂ known₃)
 
 pub holds-spec : {M : Type 1} → stated.statement M
 unfolding code.routine tablesOf

@@ -67,7 +67,17 @@ use Rattle.blocks.proofs.look.Statement as stated
 use Rattle.blocks.proofs.look.Code as code
 
 abbrev stayed : Stays (F.ended .signature .params) (F.ended .kept)
-stayed = (stay-none-slice (0 ∷ []) tt (plain (λ _. u8)) yes, (stay-none-slice (0 ∷ []) tt (plain (λ _. T.the-row)) yes, (stay-none (λ _. K.the-row) yes, (stay-none (λ _. usize) yes, tt))))
+stayed = (
+  stay-none-slice (0 ∷ []) tt (plain (λ _. u8)) yes,
+  (
+    stay-none-slice (0 ∷ []) tt (plain (λ _. T.the-row)) yes,
+    (
+      stay-none (λ _. K.the-row)
+          yes,
+      (stay-none (λ _. usize) yes, tt),
+    ),
+  ),
+)
 
 -- a record's machine values
 abbrev vals : Block → List Val
@@ -98,7 +108,8 @@ module _ {M : Type 1} (𝓤 : URA M) (H : Heap 𝓤) (A : Atoms 𝓤) (mem : Mem
   Count = tripleOf 𝓤 H A N.signature (N.spec 𝓤 H A mem run)
 
 module _ {M : Type 1} (𝓤 : URA M) (H : Heap 𝓤) (A : Atoms 𝓤) (W : Given 𝓤 H A) (mem : Memory → SProp 𝓤) (run : Routine → Fun 𝓤) (κ : Lft) (q : Share)
-    (x : RefT (List ℕ)) (t : RefT (List Block)) (c : Column) (row : ℕ) (gx : Room u8 (length (now x))) (gt : Room T.the-row (length (now t))) (gc : Is K.the-row c (column-val c ∷ [])) (gr : row < 2 ^ 64) where
+    (x : RefT (List ℕ)) (t : RefT (List Block)) (c : Column) (row : ℕ) (gx : Room u8 (length (now x))) (gt : Room T.the-row (length (now t)))
+    (gc : Is K.the-row c (column-val c ∷ [])) (gr : row < 2 ^ 64) where
   abbrev a : RefT (List ℕ) × (RefT (List Block) × (Column × (ℕ × Unit {0})))
   a = (x, (t, (c, (row, tt))))
 
@@ -131,7 +142,8 @@ module _ {M : Type 1} (𝓤 : URA M) (H : Heap 𝓤) (A : Atoms 𝓤) (W : Given
   asked₁ : ent 𝓤 (⋆ 𝓤 H A ((‵ (flft κ q) ⊛ ‵ ftrue) ∷ ‵ X ∷ [])) (BlockOf 𝓤 H A mem run .pre to₁)
   asked₁ =
       qed W ((‵ (flft κ q) ⊛ ‵ ftrue) ∷ ‵ X ∷ []) ∵ nothing ! $ owned ! usize (Is usize) (uint-makes 𝓤 H A W w64) row _ (refl, gr) $ fjoin ! $
-      owned ! K.the-row (Is K.the-row) (LL.makes K.the-type K′.the-plain 𝓤 H A) c _ gc $ fjoin ! $ move ! (2 ∷ 0 ∷ []) $ fjoin ! $ move ! (1 ∷ 0 ∷ []) $ join ! $ frame ! $ done !
+      owned ! K.the-row (Is K.the-row) (LL.makes K.the-type K′.the-plain 𝓤 H A) c _ gc $ fjoin ! $ move ! (2 ∷ 0 ∷ []) $ fjoin ! $ move ! (1 ∷ 0 ∷ [])
+      $ join ! $ frame ! $ done !
 
   said₁ : (k : ℕ) → ent 𝓤 (ensured 𝓤 H A G.ended (G.clauses 𝓤 H A mem run) (κ, tt) a₁ tt k) (fact 𝓤 (Named k))
   said₁ k = exE 𝓤 _ (λ ws. snd∗ 𝓤 (sem 𝓤 H A (lasts G.ended (κ, tt) a₁ ws)) (fact 𝓤 (Named k)))
@@ -146,8 +158,10 @@ module _ {M : Type 1} (𝓤 : URA M) (H : Heap 𝓤) (A : Atoms 𝓤) (W : Given
 
     asked₂ : k < 2 ^ 64 → ent 𝓤 (⋆ 𝓤 H A ((‵ (flft κ q) ⊛ ‵ ftrue) ∷ ‵ Tb ∷ [])) (BlockOr 𝓤 H A mem run .pre to₂)
     asked₂ gk =
-        qed W ((‵ (flft κ q) ⊛ ‵ ftrue) ∷ ‵ Tb ∷ []) ∵ nothing ! $ owned ! T.the-row (Is T.the-row) (LL.makes T.the-type T′.the-plain 𝓤 H A) none _ none-is $ fjoin ! $
-        owned ! usize (Is usize) (uint-makes 𝓤 H A W w64) k _ (refl, gk) $ fjoin ! $ move ! (2 ∷ 0 ∷ []) $ fjoin ! $ move ! (1 ∷ 0 ∷ []) $ join ! $ frame ! $ done !
+        qed W ((‵ (flft κ q) ⊛ ‵ ftrue) ∷ ‵ Tb ∷ []) ∵ nothing ! $ owned ! T.the-row (Is T.the-row) (LL.makes T.the-type T′.the-plain 𝓤 H A) none _
+        none-is $ fjoin ! $
+        owned ! usize (Is usize) (uint-makes 𝓤 H A W w64) k _ (refl, gk) $ fjoin ! $ move ! (2 ∷ 0 ∷ []) $ fjoin ! $ move ! (1 ∷ 0 ∷ []) $ join ! $
+        frame ! $ done !
 
     said₂ : (b : Block) → ent 𝓤 (ensured 𝓤 H A O.ended (O.clauses 𝓤 H A mem run) (κ, tt) a₂ tt b) (fact 𝓤 (b ≡ getD (now t) k none))
     said₂ b = exE 𝓤 _ (λ ws. snd∗ 𝓤 (sem 𝓤 H A (lasts O.ended (κ, tt) a₂ ws)) (fact 𝓤 (b ≡ getD (now t) k none)))
@@ -171,64 +185,99 @@ module _ {M : Type 1} (𝓤 : URA M) (H : Heap 𝓤) (A : Atoms 𝓤) (W : Given
   made-is : (n : ℕ) (b : Block) → n < 2 ^ 64 → Is T.the-row b (vals b) → Is S.the-row (made n b) (seen-val (made n b) ∷ [])
   made-is n b gn gb = LL.owes S.the-type S′.the-laws (made n b) ((refl, gn), (gb, tt))
 
-  exits : (s : Seen) → Sees (now t) (now x) (c .first + row) s → Is S.the-row s (seen-val s ∷ []) → ent 𝓤 (⋆ 𝓤 H A ((‵ (flft κ q) ⊛ ‵ ftrue) ∷ ‵ Tb ∷ ‵ Rest ∷ ‵ X ∷ [])) (Post (seen-val s))
+  exits : (s : Seen) → Sees (now t) (now x) (c .first + row) s → Is S.the-row s (seen-val s ∷ [])
+      → ent 𝓤 (⋆ 𝓤 H A ((‵ (flft κ q) ⊛ ‵ ftrue) ∷ ‵ Tb ∷ ‵ Rest ∷ ‵ X ∷ [])) (Post (seen-val s))
   exits s e g =
       qed W ((‵ (flft κ q) ⊛ ‵ ftrue) ∷ ‵ Tb ∷ ‵ Rest ∷ ‵ X ∷ []) ∵
-      suffices ! _ (ends-at 𝓤 H A F.ended stayed (F.clauses 𝓤 H A mem run) W (((κ, tt), (q, tt), tt, a, at), tt) (seen-val s) s (tt, (tt, (tt, (tt, tt)))) (tt, (tt, (tt, (tt, tt))))) $ says ! e $
+      suffices ! _ (ends-at 𝓤 H A F.ended stayed (F.clauses 𝓤 H A mem run) W (((κ, tt), (q, tt), tt, a, at), tt) (seen-val s) s
+      (tt, (tt, (tt, (tt, tt)))) (tt, (tt, (tt, (tt, tt))))) $ says ! e $
       frame ! $ fjoin ! $ move ! (1 ∷ 0 ∷ []) $ fjoin ! $ frame ! $ owned ! S.the-row (Is S.the-row) (LL.makes S.the-type S′.the-plain 𝓤 H A) s _ g $ done !
 
-  module _ (C : Calls 𝓤 H) (Λ : Loops 𝓤 H) (fm : FmC 𝓤 H (W .laws) C) (known₁ : Triple 𝓤 (C #blocks·block-of) (BlockOf 𝓤 H A mem run)) (known₂ : Triple 𝓤 (C #blocks·block-or) (BlockOr 𝓤 H A mem run)) (known₃ : Triple 𝓤 (C #blocks·count) (Count 𝓤 H A mem run)) where
-    walk : ent 𝓤 (onEntry 𝓤 H A F.signature (κ, tt) (q, tt) a at) (WpFn 𝓤 H C Λ code.function (sliceVal (x .ptr) (length (now x)) ∷ sliceVal (t .ptr) (length (now t)) ∷ column-val c ∷ vint w64 row ∷ []) Post)
+  module _ (C : Calls 𝓤 H) (Λ : Loops 𝓤 H) (fm : FmC 𝓤 H (W .laws) C) (known₁ : Triple 𝓤 (C #blocks·block-of) (BlockOf 𝓤 H A mem run))
+      (known₂ : Triple 𝓤 (C #blocks·block-or) (BlockOr 𝓤 H A mem run)) (known₃ : Triple 𝓤 (C #blocks·count) (Count 𝓤 H A mem run)) where
+    walk : ent 𝓤 (onEntry 𝓤 H A F.signature (κ, tt) (q, tt) a at) (WpFn 𝓤 H C Λ code.function (sliceVal (x .ptr) (length (now x)) ∷ sliceVal (t .ptr)
+        (length (now t)) ∷ column-val c ∷ vint w64 row ∷ []) Post)
     walk =
         qed W ((‵ (flft κ q) ⊛ ‵ ftrue) ∷ ‵ (owns (ShrSlice (named 0) κ u8 ∷ ShrSlice (named 0) κ T.the-row ∷ K.the-row ∷ usize ∷ []) a at) ∷ []) ∵
         -- [the token; the table, three times; the numbers; the views, twice]
         move ! (1 ∷ []) $ fsplit ! $ use1 W (‵ X ⊛ ‵ X) (shr-slice-copy 𝓤 H A W (named 0) κ u8 .twice x (slice-vals x)) $ split ! $
-        move ! (2 ∷ []) $ fsplit ! $ use1 W (‵ Tb ⊛ ‵ Tb) (shr-slice-copy 𝓤 H A W (named 0) κ T.the-row .twice t (slice-vals t)) $ split ! $ use1 W (‵ Tb ⊛ ‵ Tb) (shr-slice-copy 𝓤 H A W (named 0) κ T.the-row .twice t (slice-vals t)) $ split ! $ move ! (6 ∷ []) $
+        move ! (2 ∷ []) $ fsplit ! $ use1 W (‵ Tb ⊛ ‵ Tb) (shr-slice-copy 𝓤 H A W (named 0) κ T.the-row .twice t (slice-vals t)) $ split ! $ use1 W
+        (‵ Tb ⊛ ‵ Tb) (shr-slice-copy 𝓤 H A W (named 0) κ T.the-row .twice t (slice-vals t)) $ split ! $ move ! (6 ∷ []) $
         enter ! C Λ code.function (sliceVal (x .ptr) (length (now x)) ∷ sliceVal (t .ptr) (length (now t)) ∷ column-val c ∷ vint w64 row ∷ []) _ $
-        alloc1 ! (λ l₀. alloc1 ! (λ l₁. alloc1 ! (λ l₂. alloc1 ! (λ l₃. alloc1 ! (λ l₄. alloc1 ! (λ l₅. alloc1 ! (λ l₆. alloc1 ! (λ l₇. alloc1 ! (λ l₈. alloc0 ! $ params1 ! $
+        alloc1 ! (λ l₀. alloc1 !
+        (λ l₁. alloc1 ! (λ l₂. alloc1 ! (λ l₃. alloc1 ! (λ l₄. alloc1 ! (λ l₅. alloc1 ! (λ l₆. alloc1 ! (λ l₇. alloc1 ! (λ l₈. alloc0 ! $ params1 ! $
         pass1 ! (init ! 14 refl (tt, (tt, (record { fits = gx .0 }, tt)))) $ pass1 ! (init ! 12 refl (tt, (tt, (record { fits = gt .0 }, tt)))) $
         pass1 ! (init ! 10 refl (LL.lawful K.the-type K′.the-laws 𝓤 H A W .typed c _ gc .0)) $ pass1 ! (init ! 8 refl (tt, record { fits = gr })) $ pass0 ! $
         -- [_8; …; _7; …; _6; …; _5; …; _4; …; _3; …; _2; …; _1; …; _0; …; the token; the table, three times; the numbers; the views, twice]
         move ! (18 ∷ 23 ∷ []) $ use2 W (raw (BlockOf 𝓤 H A mem run .pre to₁)) asked₁ $
-        calls-at ! fm (BlockOf 𝓤 H A mem run) known₁ to₁ (and-then ! (load ! (from ! (stop !)) (look ! 15 refl)) (and-then ! (load ! (from ! (stop !)) (look ! 11 refl)) (and-then ! (load ! (from ! (stop !)) (look ! 9 refl)) (no-more !)))) (λ u.
-        use1 W (later (some (λ (k : ℕ). ((‵ (flft κ q) ⊛ ‵ ftrue) ⊛ ‵ (usize .own k (u ∷ []))) ⊛ raw (ensured 𝓤 H A G.ended (G.clauses 𝓤 H A mem run) (κ, tt) a₁ tt k)))) (id⊢ 𝓤 _) $ await ! tt $ pick ! (λ k.
+        calls-at ! fm (BlockOf 𝓤 H A mem run) known₁ to₁ (and-then ! (load ! (from ! (stop !)) (look ! 15 refl))
+        (and-then ! (load ! (from ! (stop !)) (look ! 11 refl)) (and-then ! (load ! (from ! (stop !)) (look ! 9 refl)) (no-more !)))) (λ u.
+        use1 W (later (some (λ (k : ℕ). ((‵ (flft κ q) ⊛ ‵ ftrue) ⊛ ‵ (usize .own k (u ∷ []))) ⊛ raw (ensured 𝓤 H A G.ended (G.clauses 𝓤 H A mem run)
+        (κ, tt) a₁ tt k)))) (id⊢ 𝓤 _) $ await ! tt $ pick ! (λ k.
         split ! $ move ! (1 ∷ []) $ use1 W (raw (fact 𝓤 (Named k))) (said₁ k) $ heard ! (Named k) (λ e₁. split ! $ move ! (1 ∷ []) $
         peeks ! usize (Is usize) (shows 𝓤 H A usize) k (u ∷ []) (λ gk.
         -- [the number; the token; _8; …; the table, three times; the numbers; the views]
-        land ! (from ! (stop !)) (init ! 8 refl (uint-lawful 𝓤 H A W w64 .typed k _ gk .0)) $ rewrite ! 8 (λ (w : Val). ‵ (fat fullShare (tyInt w64) l₅ 0 w)) (ap only (gk .0)) refl $ drop ! $
-        assigns ! (agg ! (and-then ! (lit ! tt) (and-then ! (lit ! tt) (no-more !)))) (from ! (stop !)) (init ! 1 refl (LL.lawful T.the-type T′.the-laws 𝓤 H A W .typed none (vals none) none-is .0)) $
+        land ! (from ! (stop !)) (init ! 8 refl (uint-lawful 𝓤 H A W w64 .typed k _ gk .0)) $ rewrite ! 8
+        (λ (w : Val). ‵ (fat fullShare (tyInt w64) l₅ 0 w)) (ap only (gk .0)) refl $ drop ! $
+        assigns ! (agg ! (and-then ! (lit ! tt) (and-then ! (lit ! tt) (no-more !)))) (from ! (stop !))
+        (init ! 1 refl (LL.lawful T.the-type T′.the-laws 𝓤 H A W .typed none (vals none) none-is .0)) $
         move ! (0 ∷ 19 ∷ []) $ use2 W (raw (BlockOr 𝓤 H A mem run .pre (to₂ k))) (asked₂ k (gk .1)) $
-        calls-at ! fm (BlockOr 𝓤 H A mem run) known₂ (to₂ k) (and-then ! (load ! (from ! (stop !)) (look ! 13 refl)) (and-then ! (load ! (from ! (stop !)) (look ! 7 refl)) (and-then ! (load ! (from ! (stop !)) (look ! 1 refl)) (no-more !)))) (λ u′.
-        use1 W (later (some (λ (b : Block). ((‵ (flft κ q) ⊛ ‵ ftrue) ⊛ ‵ (T.the-row .own b (u′ ∷ []))) ⊛ raw (ensured 𝓤 H A O.ended (O.clauses 𝓤 H A mem run) (κ, tt) (a₂ k) tt b)))) (id⊢ 𝓤 _) $ await ! tt $ pick ! (λ b.
-        split ! $ move ! (1 ∷ []) $ use1 W (raw (fact 𝓤 (b ≡ getD (now t) k none))) (said₂ k b) $ heard ! (b ≡ getD (now t) k none) (λ e₂. split ! $ move ! (1 ∷ []) $
-        peeks ! T.the-row (Is T.the-row) (shows 𝓤 H A T.the-row) b (u′ ∷ []) (λ gb. let ub = LL.tells T.the-type T′.the-laws b (u′ ∷ []) gb in let gb′ : Is T.the-row b (vals b) = subst (Is T.the-row b) ub gb in
-        land ! (from ! (stop !)) (init ! 6 refl (LL.lawful T.the-type T′.the-laws 𝓤 H A W .typed b _ gb .0)) $ rewrite ! 6 (λ (w : Val). ‵ (fat fullShare T′.mir l₆ 0 w)) (ap only ub) refl $ drop ! $
+        calls-at ! fm (BlockOr 𝓤 H A mem run) known₂ (to₂ k) (and-then ! (load ! (from ! (stop !)) (look ! 13 refl))
+        (and-then ! (load ! (from ! (stop !)) (look ! 7 refl)) (and-then ! (load ! (from ! (stop !)) (look ! 1 refl)) (no-more !)))) (λ u′.
+        use1 W (later (some (λ (b : Block). ((‵ (flft κ q) ⊛ ‵ ftrue) ⊛ ‵ (T.the-row .own b (u′ ∷ []))) ⊛ raw
+        (ensured 𝓤 H A O.ended (O.clauses 𝓤 H A mem run) (κ, tt) (a₂ k) tt b)))) (id⊢ 𝓤 _) $ await ! tt $ pick ! (λ b.
+        split ! $ move ! (1 ∷ []) $ use1 W (raw (fact 𝓤 (b ≡ getD (now t) k none))) (said₂ k b) $ heard ! (b ≡ getD (now t) k none)
+        (λ e₂. split ! $ move ! (1 ∷ []) $
+        peeks ! T.the-row (Is T.the-row) (shows 𝓤 H A T.the-row) b (u′ ∷ []) (λ gb. let ub = LL.tells T.the-type T′.the-laws b (u′ ∷ []) gb in
+        let gb′ : Is T.the-row b (vals b) = subst (Is T.the-row b) ub gb in
+        land ! (from ! (stop !)) (init ! 6 refl (LL.lawful T.the-type T′.the-laws 𝓤 H A W .typed b _ gb .0)) $ rewrite ! 6
+        (λ (w : Val). ‵ (fat fullShare T′.mir l₆ 0 w)) (ap only ub) refl $ drop ! $
         -- [the token; _8; …; the table, twice; the numbers; the views]
         move ! (0 ∷ 19 ∷ []) $ use2 W (raw (Count 𝓤 H A mem run .pre to₃)) asked₃ $
         calls-at ! fm (Count 𝓤 H A mem run) known₃ to₃ (and-then ! (load ! (from ! (stop !)) (look ! 13 refl)) (no-more !)) (λ u″.
-        use1 W (later (some (λ (n : ℕ). ((‵ (flft κ q) ⊛ ‵ ftrue) ⊛ ‵ (usize .own n (u″ ∷ []))) ⊛ raw (ensured 𝓤 H A N.ended (N.clauses 𝓤 H A mem run) (κ, tt) a₃ tt n)))) (id⊢ 𝓤 _) $ await ! tt $ pick ! (λ n.
+        use1 W (later (some (λ (n : ℕ). ((‵ (flft κ q) ⊛ ‵ ftrue) ⊛ ‵ (usize .own n (u″ ∷ []))) ⊛ raw (ensured 𝓤 H A N.ended (N.clauses 𝓤 H A mem run)
+        (κ, tt) a₃ tt n)))) (id⊢ 𝓤 _) $ await ! tt $ pick ! (λ n.
         split ! $ move ! (1 ∷ []) $ use1 W (raw (fact 𝓤 (n ≡ length (now t)))) (said₃ n) $ heard ! (n ≡ length (now t)) (λ e₃. split ! $ move ! (1 ∷ []) $
         peeks ! usize (Is usize) (shows 𝓤 H A usize) n (u″ ∷ []) (λ gn.
-        land ! (from ! (stop !)) (init ! 4 refl (uint-lawful 𝓤 H A W w64 .typed n _ gn .0)) $ rewrite ! 4 (λ (w : Val). ‵ (fat fullShare (tyInt w64) l₇ 0 w)) (ap only (gn .0)) refl $ drop ! $
+        land ! (from ! (stop !)) (init ! 4 refl (uint-lawful 𝓤 H A W w64 .typed n _ gn .0)) $ rewrite ! 4
+        (λ (w : Val). ‵ (fat fullShare (tyInt w64) l₇ 0 w)) (ap only (gn .0)) refl $ drop ! $
         -- [the token; _8; …; _0; …; the table; the numbers; the views]
-        assigns ! (agg ! (and-then ! (load ! (from ! (stop !)) (look ! 3 refl)) (and-then ! (load ! (from ! (stop !)) (look ! 5 refl)) (no-more !)))) (from ! (stop !)) (init ! 17 refl (LL.lawful S.the-type S′.the-laws 𝓤 H A W .typed (made n b) _ (made-is n b (gn .1) gb′) .0)) $
-        returns ! (look ! 17 refl) $ forget ! 1 refl $ forget ! 3 refl $ forget ! 5 refl $ forget ! 7 refl $ forget ! 9 refl $ forget ! 11 refl $ forget ! 13 refl $ forget ! 15 refl $ forget ! 17 refl $
-        move ! (17 ∷ 18 ∷ []) $ free1 ! $ move ! (15 ∷ 16 ∷ []) $ free1 ! $ move ! (13 ∷ 14 ∷ []) $ free1 ! $ move ! (11 ∷ 12 ∷ []) $ free1 ! $ move ! (9 ∷ 10 ∷ []) $ free1 ! $ move ! (7 ∷ 8 ∷ []) $ free1 ! $ move ! (5 ∷ 6 ∷ []) $ free1 ! $ move ! (3 ∷ 4 ∷ []) $ free1 ! $ move ! (1 ∷ 2 ∷ []) $ free1 ! $ free0 ! $
-        by ! (exits (made n b) (record { count = e₃; block = λ h. e₂ ∙ ap (λ (j : ℕ). getD (now t) j none) (e₁ h) }) (made-is n b (gn .1) gb′)))))))))))))))))))))))
+        assigns ! (agg ! (and-then ! (load ! (from ! (stop !)) (look ! 3 refl)) (and-then ! (load ! (from ! (stop !)) (look ! 5 refl)) (no-more !))))
+        (from ! (stop !)) (init ! 17 refl (LL.lawful S.the-type S′.the-laws 𝓤 H A W .typed (made n b) _ (made-is n b (gn .1) gb′) .0)) $
+        returns ! (look ! 17 refl) $ forget ! 1 refl $ forget ! 3 refl $ forget ! 5 refl $ forget ! 7 refl $ forget ! 9 refl $ forget ! 11 refl $
+        forget ! 13 refl $ forget ! 15 refl $ forget ! 17 refl $
+        move ! (17 ∷ 18 ∷ []) $ free1 ! $ move ! (15 ∷ 16 ∷ []) $ free1 ! $ move ! (13 ∷ 14 ∷ []) $ free1 ! $ move ! (11 ∷ 12 ∷ []) $ free1 ! $ move !
+        (9 ∷ 10 ∷ []) $ free1 ! $ move ! (7 ∷ 8 ∷ []) $ free1 ! $ move ! (5 ∷ 6 ∷ []) $ free1 ! $ move ! (3 ∷ 4 ∷ []) $ free1 ! $ move !
+        (1 ∷ 2 ∷ []) $ free1 ! $ free0 ! $
+        by ! (exits (made n b) (record { count = e₃; block = λ h. e₂ ∙ ap (λ (j : ℕ). getD (now t) j none) (e₁ h) })
+        (made-is n b (gn .1) gb′)))))))))))))))))))))))
 
 module _ {M : Type 1} (𝓤 : URA M) (H : Heap 𝓤) (A : Atoms 𝓤) (W : Given 𝓤 H A) (mem : Memory → SProp 𝓤) (run : Routine → Fun 𝓤) where
-  walks : (C : Calls 𝓤 H) (Λ : Loops 𝓤 H) → FmC 𝓤 H (W .laws) C → Triple 𝓤 (C #blocks·block-of) (BlockOf 𝓤 H A mem run) → Triple 𝓤 (C #blocks·block-or) (BlockOr 𝓤 H A mem run) → Triple 𝓤 (C #blocks·count) (Count 𝓤 H A mem run)
+  walks : (C : Calls 𝓤 H) (Λ : Loops 𝓤 H) → FmC 𝓤 H (W .laws) C → Triple 𝓤 (C #blocks·block-of) (BlockOf 𝓤 H A mem run)
+      → Triple 𝓤 (C #blocks·block-or) (BlockOr 𝓤 H A mem run) → Triple 𝓤 (C #blocks·count) (Count 𝓤 H A mem run)
       → Walks 𝓤 H A F.ended stayed (WpFn 𝓤 H C Λ code.function) (F.clauses 𝓤 H A mem run)
   walks C Λ fm known₁ known₂ known₃ = walked 𝓤 H A F.ended stayed (F.clauses 𝓤 H A mem run) (WpFn 𝓤 H C Λ code.function)
-      (λ κs. (slice-vals, (slice-vals, (LL.vals K.the-type K′.the-laws, (uint-vals w64, tt))))) (λ κs. (shr-slice-tells (named 0) (κs .0) u8, (shr-slice-tells (named 0) (κs .0) T.the-row, (LL.tells K.the-type K′.the-laws, (uint-tells w64, tt)))))
+      (λ κs. (slice-vals, (slice-vals, (LL.vals K.the-type K′.the-laws, (uint-vals w64, tt)))))
+      (λ κs. (shr-slice-tells (named 0) (κs .0) u8, (shr-slice-tells (named 0) (κs .0) T.the-row, (LL.tells K.the-type K′.the-laws, (uint-tells w64, tt)))))
       (λ κs qs bounds a _ are. via 𝓤 _ (fst∗ 𝓤 _ (emp 𝓤)) (walk 𝓤 H A W mem run (κs .0) (qs .0) (a .0) (a .1 .0) (a .1 .1 .0) (a .1 .1 .1 .0)
       (are .0 .0 .1) (are .1 .0 .0 .1) (are .1 .1 .0) (are .1 .1 .1 .0 .1) C Λ fm known₁ known₂ known₃))
 
 meets : {M : Type 1} (𝓤 : URA M) (H : Heap 𝓤) (A : Atoms 𝓤) (W : Given 𝓤 H A) (mem : Memory → SProp 𝓤) (run : Routine → Fun 𝓤) (𝓣 : Tables 𝓤 H)
-    → Triple 𝓤 (𝓣 .C #blocks·block-of) (BlockOf 𝓤 H A mem run) → Triple 𝓤 (𝓣 .C #blocks·block-or) (BlockOr 𝓤 H A mem run) → Triple 𝓤 (𝓣 .C #blocks·count) (Count 𝓤 H A mem run)
+    → Triple 𝓤 (𝓣 .C #blocks·block-of) (BlockOf 𝓤 H A mem run) → Triple 𝓤 (𝓣 .C #blocks·block-or) (BlockOr 𝓤 H A mem run)
+    → Triple 𝓤 (𝓣 .C #blocks·count) (Count 𝓤 H A mem run)
     → Meets 𝓤 H A F.signature (WpFn 𝓤 H (𝓣 .C) (𝓣 .Λ) code.function) (F.spec 𝓤 H A mem run)
-meets 𝓤 H A W mem run 𝓣 known₁ known₂ known₃ = walk-meets 𝓤 H A F.ended stayed W (goes-none-slice 𝓤 H A W 1 (0 ∷ []) tt (plain (λ _. u8)) yes, (goes-none-slice 𝓤 H A W 1 (0 ∷ []) tt (plain (λ _. T.the-row)) yes, (goes-none 𝓤 H A W 1 (λ _. K.the-row) yes (λ κs x f. refl), (goes-none 𝓤 H A W 1 (λ _. usize) yes (λ κs x f. refl), tt))))
-    (F.clauses 𝓤 H A mem run) (WpFn 𝓤 H (𝓣 .C) (𝓣 .Λ) code.function) (WpFn-mono 𝓤 H (W .laws) 𝓣 code.function) (walks 𝓤 H A W mem run (𝓣 .C) (𝓣 .Λ) (fmOf 𝓤 H (W .laws) 𝓣) known₁ known₂ known₃)
+meets 𝓤 H A W mem run 𝓣 known₁ known₂ known₃ = walk-meets 𝓤 H A F.ended stayed W (
+  goes-none-slice 𝓤 H A W 1 (0 ∷ []) tt (plain (λ _. u8)) yes,
+  (
+    goes-none-slice 𝓤 H A W 1 (0 ∷ []) tt (plain (λ _. T.the-row)) yes,
+    (
+      goes-none 𝓤 H A W 1 (λ _. K.the-row) yes (λ κs x f. refl),
+      (goes-none 𝓤 H A W 1 (λ _. usize) yes (λ κs x f. refl), tt),
+    ),
+  ),
+)
+    (F.clauses 𝓤 H A mem run) (WpFn 𝓤 H (𝓣 .C) (𝓣 .Λ) code.function) (WpFn-mono 𝓤 H (W .laws) 𝓣 code.function) (walks 𝓤 H A W mem run (𝓣 .C) (𝓣 .Λ)
+    (fmOf 𝓤 H (W .laws) 𝓣) known₁ known₂ known₃)
 
 pub look-spec : {M : Type 1} → stated.statement M
 unfolding code.routine tablesOf

@@ -1,4 +1,5 @@
--- `blocks::value` meets its contract: a walk of its MIR, by hand. What the row sees is asked, and the work is done on it. A part of one of the slices is returned. Assumes nothing.
+-- `blocks::value` meets its contract: a walk of its MIR, by hand. What the row sees is asked, and the work is done on it. A part of one of the slices
+-- is returned. Assumes nothing.
 use mathlib.Core.Path.{refl, _≡_}
 use Prim.Native.Nat.{ℕ, _<_, _^_, _+_}
 use mathlib.Core.List.{[], _∷_, List}
@@ -61,7 +62,17 @@ use Rattle.blocks.proofs.value.Statement as stated
 use Rattle.blocks.proofs.value.Code as code
 
 abbrev stayed : Stays (F.ended .signature .params) (F.ended .kept)
-stayed = (stay-none-slice (0 ∷ []) tt (plain (λ _. u8)) yes, (stay-none-slice (0 ∷ []) tt (plain (λ _. u8)) yes, (stay-none-slice (0 ∷ []) tt (plain (λ _. T.the-row)) yes, (stay-none-slice (0 ∷ []) tt (plain (λ _. u8)) yes, (stay-none (λ _. K.the-row) yes, (stay-none (λ _. usize) yes, tt))))))
+stayed = (
+  stay-none-slice (0 ∷ []) tt (plain (λ _. u8)) yes,
+  (
+    stay-none-slice (0 ∷ []) tt (plain (λ _. u8)) yes,
+    (
+      stay-none-slice (0 ∷ []) tt
+          (plain (λ _. T.the-row)) yes,
+      (stay-none-slice (0 ∷ []) tt (plain (λ _. u8)) yes, (stay-none (λ _. K.the-row) yes, (stay-none (λ _. usize) yes, tt))),
+    ),
+  ),
+)
 
 module _ {M : Type 1} (𝓤 : URA M) (H : Heap 𝓤) (A : Atoms 𝓤) (mem : Memory → SProp 𝓤) (run : Routine → Fun 𝓤) where
   -- the contract of the function that does the work
@@ -70,7 +81,8 @@ module _ {M : Type 1} (𝓤 : URA M) (H : Heap 𝓤) (A : Atoms 𝓤) (mem : Mem
 
 module _ {M : Type 1} (𝓤 : URA M) (H : Heap 𝓤) (A : Atoms 𝓤) (W : Given 𝓤 H A) (mem : Memory → SProp 𝓤) (run : Routine → Fun 𝓤) (κ : Lft) (q : Share)
     (x y : RefT (List ℕ)) (t : RefT (List Block)) (z : RefT (List ℕ)) (c : Column) (row : ℕ)
-    (gx : Room u8 (length (now x))) (gy : Room u8 (length (now y))) (gt : Room T.the-row (length (now t))) (gz : Room u8 (length (now z))) (gc : Is K.the-row c (column-val c ∷ [])) (gr : row < 2 ^ 64) where
+    (gx : Room u8 (length (now x))) (gy : Room u8 (length (now y))) (gt : Room T.the-row (length (now t))) (gz : Room u8 (length (now z)))
+    (gc : Is K.the-row c (column-val c ∷ [])) (gr : row < 2 ^ 64) where
   abbrev a : RefT (List ℕ) × (RefT (List ℕ) × (RefT (List Block) × (RefT (List ℕ) × (Column × (ℕ × Unit {0})))))
   a = (x, (y, (t, (z, (c, (row, tt))))))
 
@@ -78,7 +90,8 @@ module _ {M : Type 1} (𝓤 : URA M) (H : Heap 𝓤) (A : Atoms 𝓤) (W : Given
   at = (slice-vals x, (slice-vals y, (slice-vals t, (slice-vals z, (column-val c ∷ [], (vint w64 row ∷ [], tt))))))
 
   abbrev passed : List Val
-  passed = sliceVal (x .ptr) (length (now x)) ∷ sliceVal (y .ptr) (length (now y)) ∷ sliceVal (t .ptr) (length (now t)) ∷ sliceVal (z .ptr) (length (now z)) ∷ column-val c ∷ vint w64 row ∷ []
+  passed = sliceVal (x .ptr) (length (now x)) ∷ sliceVal (y .ptr) (length (now y)) ∷ sliceVal (t .ptr) (length (now t)) ∷ sliceVal (z .ptr)
+      (length (now z)) ∷ column-val c ∷ vint w64 row ∷ []
 
   abbrev Post : Val → SProp 𝓤
   Post = walkOf 𝓤 H A F.ended stayed (F.clauses 𝓤 H A mem run) .post (((κ, tt), (q, tt), tt, a, at), tt)
@@ -95,7 +108,8 @@ module _ {M : Type 1} (𝓤 : URA M) (H : Heap 𝓤) (A : Atoms 𝓤) (W : Given
 
   -- what the result is, over a table that the row sees so
   abbrev Good : List Block → RefT (List ℕ) → Type 0
-  Good table p = (now p ≡ valueAt (buffers (now x) (now y) table (now z)) c row) × (ptr p ≡ pointsAt (buffers (now x) (now y) table (now z)) c row (ptr x) (ptr y))
+  Good table p = (now p ≡ valueAt (buffers (now x) (now y) table (now z)) c row) × (ptr p ≡ pointsAt (buffers (now x) (now y) table (now z)) c row
+      (ptr x) (ptr y))
 
   -- the work, on what the row sees
   module _ (s : Seen) (u : Val) (gs : Is S.the-row s (u ∷ [])) where
@@ -108,7 +122,8 @@ module _ {M : Type 1} (𝓤 : URA M) (H : Heap 𝓤) (A : Atoms 𝓤) (W : Given
     asked₂ : ent 𝓤 (⋆ 𝓤 H A ((‵ (flft κ q) ⊛ ‵ ftrue) ∷ ‵ (Own x) ∷ (‵ (Own y) ⊛ ‵ (Own z)) ∷ [])) (Work 𝓤 H A mem run .pre to₂)
     asked₂ =
         qed W ((‵ (flft κ q) ⊛ ‵ ftrue) ∷ ‵ (Own x) ∷ (‵ (Own y) ⊛ ‵ (Own z)) ∷ []) ∵ move ! (2 ∷ []) $ split ! $
-        nothing ! $ owned ! S.the-row (Is S.the-row) (LL.makes S.the-type S′.the-plain 𝓤 H A) s _ gs $ fjoin ! $ owned ! usize (Is usize) (uint-makes 𝓤 H A W w64) row _ (refl, gr) $ fjoin ! $
+        nothing ! $ owned ! S.the-row (Is S.the-row) (LL.makes S.the-type S′.the-plain 𝓤 H A) s _ gs $ fjoin ! $ owned ! usize (Is usize)
+        (uint-makes 𝓤 H A W w64) row _ (refl, gr) $ fjoin ! $
         owned ! K.the-row (Is K.the-row) (LL.makes K.the-type K′.the-plain 𝓤 H A) c _ gc $ fjoin ! $
         move ! (2 ∷ 0 ∷ []) $ fjoin ! $ move ! (1 ∷ 0 ∷ []) $ fjoin ! $ move ! (2 ∷ 0 ∷ []) $ fjoin ! $ move ! (1 ∷ 0 ∷ []) $ join ! $ frame ! $ done !
 
@@ -119,58 +134,105 @@ module _ {M : Type 1} (𝓤 : URA M) (H : Heap 𝓤) (A : Atoms 𝓤) (W : Given
     said₂ p = exE 𝓤 _ (λ ws. snd∗ 𝓤 (sem 𝓤 H A (lasts P.ended (κ, tt) a₂ ws)) (fact 𝓤 (Said p)))
 
   exits : (p : RefT (List ℕ)) (u : Val) → Good (now t) p
-      → ent 𝓤 (⋆ 𝓤 H A (‵ (ShrSlice (named 0) κ u8 .own p (u ∷ [])) ∷ (‵ (flft κ q) ⊛ ‵ ftrue) ∷ ‵ (Own z) ∷ ‵ Rest ∷ ‵ Tb ∷ ‵ (Own y) ∷ ‵ (Own x) ∷ [])) (Post u)
+      → ent 𝓤 (⋆ 𝓤 H A (‵ (ShrSlice (named 0) κ u8 .own p (u ∷ [])) ∷ (‵ (flft κ q) ⊛ ‵ ftrue) ∷ ‵ (Own z) ∷ ‵ Rest ∷ ‵ Tb ∷ ‵ (Own y) ∷ ‵ (Own x)
+      ∷ [])) (Post u)
   exits p u e =
       qed W (‵ (ShrSlice (named 0) κ u8 .own p (u ∷ [])) ∷ (‵ (flft κ q) ⊛ ‵ ftrue) ∷ ‵ (Own z) ∷ ‵ Rest ∷ ‵ Tb ∷ ‵ (Own y) ∷ ‵ (Own x) ∷ []) ∵
-      suffices ! _ (ends-at 𝓤 H A F.ended stayed (F.clauses 𝓤 H A mem run) W (((κ, tt), (q, tt), tt, a, at), tt) u p (tt, (tt, (tt, (tt, (tt, (tt, tt)))))) (tt, (tt, (tt, (tt, (tt, (tt, tt))))))) $ says ! e $
-      move ! (1 ∷ []) $ frame ! $ move ! (1 ∷ 2 ∷ []) $ fjoin ! $ move ! (2 ∷ 0 ∷ []) $ fjoin ! $ move ! (2 ∷ 0 ∷ []) $ fjoin ! $ move ! (2 ∷ 0 ∷ []) $ fjoin ! $ frame ! $ done !
+      suffices ! _ (ends-at 𝓤 H A F.ended stayed (F.clauses 𝓤 H A mem run) W (((κ, tt), (q, tt), tt, a, at), tt) u p
+      (tt, (tt, (tt, (tt, (tt, (tt, tt)))))) (tt, (tt, (tt, (tt, (tt, (tt, tt))))))) $ says ! e $
+      move ! (1 ∷ []) $ frame ! $ move ! (1 ∷ 2 ∷ []) $ fjoin ! $ move ! (2 ∷ 0 ∷ []) $ fjoin ! $ move ! (2 ∷ 0 ∷ []) $ fjoin ! $ move ! (2 ∷ 0 ∷ [])
+      $ fjoin ! $ frame ! $ done !
 
-  module _ (C : Calls 𝓤 H) (Λ : Loops 𝓤 H) (fm : FmC 𝓤 H (W .laws) C) (known₁ : Triple 𝓤 (C #blocks·look) (Look 𝓤 H A mem run)) (known₂ : Triple 𝓤 (C #reading·value-with) (Work 𝓤 H A mem run)) where
+  module _ (C : Calls 𝓤 H) (Λ : Loops 𝓤 H) (fm : FmC 𝓤 H (W .laws) C) (known₁ : Triple 𝓤 (C #blocks·look) (Look 𝓤 H A mem run))
+      (known₂ : Triple 𝓤 (C #reading·value-with) (Work 𝓤 H A mem run)) where
     walk : ent 𝓤 (onEntry 𝓤 H A F.signature (κ, tt) (q, tt) a at) (WpFn 𝓤 H C Λ code.function passed Post)
     walk =
-        qed W ((‵ (flft κ q) ⊛ ‵ ftrue) ∷ ‵ (owns (ShrSlice (named 0) κ u8 ∷ ShrSlice (named 0) κ u8 ∷ ShrSlice (named 0) κ T.the-row ∷ ShrSlice (named 0) κ u8 ∷ K.the-row ∷ usize ∷ []) a at) ∷ []) ∵
+        qed W ((‵ (flft κ q) ⊛ ‵ ftrue) ∷ ‵ (owns (ShrSlice (named 0) κ u8 ∷ ShrSlice (named 0) κ u8 ∷ ShrSlice (named 0) κ T.the-row ∷ ShrSlice
+        (named 0) κ u8 ∷ K.the-row ∷ usize ∷ []) a at) ∷ []) ∵
         -- [the token; the nulls, twice; the numbers; the table, twice; the bytes, twice; the views, three times]
-        move ! (1 ∷ []) $ fsplit ! $ use1 W (‵ (Own x) ⊛ ‵ (Own x)) (shr-slice-copy 𝓤 H A W (named 0) κ u8 .twice x (slice-vals x)) $ split ! $ use1 W (‵ (Own x) ⊛ ‵ (Own x)) (shr-slice-copy 𝓤 H A W (named 0) κ u8 .twice x (slice-vals x)) $ split ! $
+        move ! (1 ∷ []) $ fsplit ! $ use1 W (‵ (Own x) ⊛ ‵ (Own x)) (shr-slice-copy 𝓤 H A W (named 0) κ u8 .twice x (slice-vals x)) $ split ! $ use1 W
+        (‵ (Own x) ⊛ ‵ (Own x)) (shr-slice-copy 𝓤 H A W (named 0) κ u8 .twice x (slice-vals x)) $ split ! $
         move ! (3 ∷ []) $ fsplit ! $ use1 W (‵ (Own y) ⊛ ‵ (Own y)) (shr-slice-copy 𝓤 H A W (named 0) κ u8 .twice y (slice-vals y)) $ split ! $
         move ! (2 ∷ []) $ fsplit ! $ use1 W (‵ Tb ⊛ ‵ Tb) (shr-slice-copy 𝓤 H A W (named 0) κ T.the-row .twice t (slice-vals t)) $ split ! $
-        move ! (2 ∷ []) $ fsplit ! $ use1 W (‵ (Own z) ⊛ ‵ (Own z)) (shr-slice-copy 𝓤 H A W (named 0) κ u8 .twice z (slice-vals z)) $ split ! $ move ! (10 ∷ []) $
+        move ! (2 ∷ []) $ fsplit ! $ use1 W (‵ (Own z) ⊛ ‵ (Own z)) (shr-slice-copy 𝓤 H A W (named 0) κ u8 .twice z (slice-vals z)) $ split ! $ move !
+        (10 ∷ []) $
         enter ! C Λ code.function passed _ $
         alloc1 ! (λ l₀. alloc1 ! (λ l₁. alloc1 ! (λ l₂. alloc1 ! (λ l₃. alloc1 ! (λ l₄. alloc1 ! (λ l₅. alloc1 ! (λ l₆. alloc1 ! (λ l₇. alloc0 ! $ params1 ! $
-        pass1 ! (init ! 12 refl (tt, (tt, (record { fits = gx .0 }, tt)))) $ pass1 ! (init ! 10 refl (tt, (tt, (record { fits = gy .0 }, tt)))) $ pass1 ! (init ! 8 refl (tt, (tt, (record { fits = gt .0 }, tt)))) $
-        pass1 ! (init ! 6 refl (tt, (tt, (record { fits = gz .0 }, tt)))) $ pass1 ! (init ! 4 refl (LL.lawful K.the-type K′.the-laws 𝓤 H A W .typed c _ gc .0)) $ pass1 ! (init ! 2 refl (tt, record { fits = gr })) $ pass0 ! $
+        pass1 ! (init ! 12 refl (tt, (tt, (record { fits = gx .0 }, tt)))) $ pass1 ! (init ! 10 refl (tt, (tt, (record { fits = gy .0 }, tt)))) $
+        pass1 ! (init ! 8 refl (tt, (tt, (record { fits = gt .0 }, tt)))) $
+        pass1 ! (init ! 6 refl (tt, (tt, (record { fits = gz .0 }, tt)))) $ pass1 ! (init ! 4 refl (LL.lawful K.the-type K′.the-laws 𝓤 H A W .typed c
+        _ gc .0)) $ pass1 ! (init ! 2 refl (tt, record { fits = gr })) $ pass0 ! $
         -- [_7; …; _6; …; _5; …; _4; …; _3; …; _2; …; _1; …; _0; …; the token; the nulls, twice; …]
-        move ! (16 ∷ 24 ∷ 20 ∷ []) $ use3 W (raw (Look 𝓤 H A mem run .pre (ask.to 𝓤 H A mem run κ q x t c row))) (ask.asked 𝓤 H A mem run κ q x t c row W gc gr) $
-        calls-at ! fm (Look 𝓤 H A mem run) known₁ (ask.to 𝓤 H A mem run κ q x t c row) (and-then ! (load ! (from ! (stop !)) (look ! 13 refl)) (and-then ! (load ! (from ! (stop !)) (look ! 9 refl)) (and-then ! (load ! (from ! (stop !)) (look ! 5 refl)) (and-then ! (load ! (from ! (stop !)) (look ! 3 refl)) (no-more !))))) (λ u.
-        use1 W (later (some (λ (s : Seen). ((‵ (flft κ q) ⊛ ‵ ftrue) ⊛ ‵ (S.the-row .own s (u ∷ []))) ⊛ raw (ensured 𝓤 H A G.ended (G.clauses 𝓤 H A mem run) (κ, tt) (ask.args 𝓤 H A mem run κ q x t c row) tt s)))) (id⊢ 𝓤 _) $ await ! tt $ pick ! (λ s.
-        split ! $ move ! (1 ∷ []) $ use1 W (raw (fact 𝓤 (Sees (now t) (now x) (c .first + row) s))) (ask.said 𝓤 H A mem run κ q x t c row s) $ heard ! (Sees (now t) (now x) (c .first + row) s) (λ e₁. split ! $ move ! (1 ∷ []) $
+        move ! (16 ∷ 24 ∷ 20 ∷ []) $ use3 W (raw (Look 𝓤 H A mem run .pre (ask.to 𝓤 H A mem run κ q x t c row))) (ask.asked 𝓤 H A mem run κ q x t c
+        row W gc gr) $
+        calls-at ! fm (Look 𝓤 H A mem run) known₁ (ask.to 𝓤 H A mem run κ q x t c row) (and-then ! (load ! (from ! (stop !)) (look ! 13 refl))
+        (and-then ! (load ! (from ! (stop !)) (look ! 9 refl)) (and-then ! (load ! (from ! (stop !)) (look ! 5 refl))
+        (and-then ! (load ! (from ! (stop !)) (look ! 3 refl)) (no-more !))))) (λ u.
+        use1 W (later (some (λ (s : Seen). ((‵ (flft κ q) ⊛ ‵ ftrue) ⊛ ‵ (S.the-row .own s (u ∷ []))) ⊛ raw
+        (ensured 𝓤 H A G.ended (G.clauses 𝓤 H A mem run) (κ, tt) (ask.args 𝓤 H A mem run κ q x t c row) tt s)))) (id⊢ 𝓤 _) $ await ! tt $ pick ! (λ s.
+        split ! $ move ! (1 ∷ []) $ use1 W (raw (fact 𝓤 (Sees (now t) (now x) (c .first + row) s))) (ask.said 𝓤 H A mem run κ q x t c row s) $ heard !
+        (Sees (now t) (now x) (c .first + row) s) (λ e₁. split ! $ move ! (1 ∷ []) $
         peeks ! S.the-row (Is S.the-row) (shows 𝓤 H A S.the-row) s (u ∷ []) (λ gs.
         -- [what is seen; the token; _7; …]
         land ! (from ! (stop !)) (init ! 2 refl (LL.lawful S.the-type S′.the-laws 𝓤 H A W .typed s _ gs .0)) $ drop ! $
         move ! (21 ∷ 17 ∷ []) $ join ! $ move ! (1 ∷ 22 ∷ 0 ∷ []) $ use3 W (raw (Work 𝓤 H A mem run .pre (to₂ s u gs))) (asked₂ s u gs) $
-        calls-at ! fm (Work 𝓤 H A mem run) known₂ (to₂ s u gs) (and-then ! (load ! (from ! (stop !)) (look ! 13 refl)) (and-then ! (load ! (from ! (stop !)) (look ! 11 refl)) (and-then ! (load ! (from ! (stop !)) (look ! 7 refl)) (and-then ! (load ! (from ! (stop !)) (look ! 5 refl)) (and-then ! (load ! (from ! (stop !)) (look ! 3 refl)) (and-then ! (load ! (from ! (stop !)) (look ! 1 refl)) (no-more !))))))) (λ w.
-        use1 W (later (some (λ (p : RefT (List ℕ)). ((‵ (flft κ q) ⊛ ‵ ftrue) ⊛ ‵ (ShrSlice (named 0) κ u8 .own p (w ∷ []))) ⊛ raw (ensured 𝓤 H A P.ended (P.clauses 𝓤 H A mem run) (κ, tt) (a₂ s u gs) tt p)))) (id⊢ 𝓤 _) $ await ! tt $ pick ! (λ p.
+        calls-at ! fm (Work 𝓤 H A mem run) known₂ (to₂ s u gs) (and-then ! (load ! (from ! (stop !)) (look ! 13 refl))
+        (and-then ! (load ! (from ! (stop !)) (look ! 11 refl)) (and-then ! (load ! (from ! (stop !)) (look ! 7 refl))
+        (and-then ! (load ! (from ! (stop !)) (look ! 5 refl)) (and-then ! (load ! (from ! (stop !)) (look ! 3 refl))
+        (and-then ! (load ! (from ! (stop !)) (look ! 1 refl)) (no-more !))))))) (λ w.
+        use1 W (later (some (λ (p : RefT (List ℕ)). ((‵ (flft κ q) ⊛ ‵ ftrue) ⊛ ‵ (ShrSlice (named 0) κ u8 .own p (w ∷ []))) ⊛ raw
+        (ensured 𝓤 H A P.ended (P.clauses 𝓤 H A mem run) (κ, tt) (a₂ s u gs) tt p)))) (id⊢ 𝓤 _) $ await ! tt $ pick ! (λ p.
         split ! $ move ! (1 ∷ []) $ use1 W (raw (fact 𝓤 (Said s u gs p))) (said₂ s u gs p) $ heard ! (Said s u gs p) (λ e₂. split ! $ move ! (1 ∷ []) $
         peeks ! (ShrSlice (named 0) κ u8) (Is (ShrSlice (named 0) κ u8)) (shows 𝓤 H A (ShrSlice (named 0) κ u8)) p (w ∷ []) (λ gp.
         -- [the answer; the token; _7; …; room for _0; …; the nulls; the numbers; the table; the bytes; the views]
         land ! (from ! (stop !)) (init ! 16 refl (shr-slice-lawful 𝓤 H A W (named 0) κ u8 .typed p _ gp .0)) $
-        returns ! (look ! 16 refl) $ forget ! 2 refl $ forget ! 4 refl $ forget ! 6 refl $ forget ! 8 refl $ forget ! 10 refl $ forget ! 12 refl $ forget ! 14 refl $ forget ! 16 refl $
-        move ! (16 ∷ 17 ∷ []) $ free1 ! $ move ! (14 ∷ 15 ∷ []) $ free1 ! $ move ! (12 ∷ 13 ∷ []) $ free1 ! $ move ! (10 ∷ 11 ∷ []) $ free1 ! $ move ! (8 ∷ 9 ∷ []) $ free1 ! $ move ! (6 ∷ 7 ∷ []) $ free1 ! $ move ! (4 ∷ 5 ∷ []) $ free1 ! $ move ! (2 ∷ 3 ∷ []) $ free1 ! $ free0 ! $
+        returns ! (look ! 16 refl) $ forget ! 2 refl $ forget ! 4 refl $ forget ! 6 refl $ forget ! 8 refl $ forget ! 10 refl $ forget ! 12 refl $
+        forget ! 14 refl $ forget ! 16 refl $
+        move ! (16 ∷ 17 ∷ []) $ free1 ! $ move ! (14 ∷ 15 ∷ []) $ free1 ! $ move ! (12 ∷ 13 ∷ []) $ free1 ! $ move ! (10 ∷ 11 ∷ []) $ free1 ! $ move !
+        (8 ∷ 9 ∷ []) $ free1 ! $ move ! (6 ∷ 7 ∷ []) $ free1 ! $ move ! (4 ∷ 5 ∷ []) $ free1 ! $ move ! (2 ∷ 3 ∷ []) $ free1 ! $ free0 ! $
         by ! (exits p w (e₂ (now t) e₁))))))))))))))))))
 
 module _ {M : Type 1} (𝓤 : URA M) (H : Heap 𝓤) (A : Atoms 𝓤) (W : Given 𝓤 H A) (mem : Memory → SProp 𝓤) (run : Routine → Fun 𝓤) where
-  walks : (C : Calls 𝓤 H) (Λ : Loops 𝓤 H) → FmC 𝓤 H (W .laws) C → Triple 𝓤 (C #blocks·look) (Look 𝓤 H A mem run) → Triple 𝓤 (C #reading·value-with) (Work 𝓤 H A mem run)
+  walks : (C : Calls 𝓤 H) (Λ : Loops 𝓤 H) → FmC 𝓤 H (W .laws) C → Triple 𝓤 (C #blocks·look) (Look 𝓤 H A mem run) → Triple 𝓤 (C #reading·value-with)
+      (Work 𝓤 H A mem run)
       → Walks 𝓤 H A F.ended stayed (WpFn 𝓤 H C Λ code.function) (F.clauses 𝓤 H A mem run)
   walks C Λ fm known₁ known₂ = walked 𝓤 H A F.ended stayed (F.clauses 𝓤 H A mem run) (WpFn 𝓤 H C Λ code.function)
       (λ κs. (slice-vals, (slice-vals, (slice-vals, (slice-vals, (LL.vals K.the-type K′.the-laws, (uint-vals w64, tt)))))))
-      (λ κs. (shr-slice-tells (named 0) (κs .0) u8, (shr-slice-tells (named 0) (κs .0) u8, (shr-slice-tells (named 0) (κs .0) T.the-row, (shr-slice-tells (named 0) (κs .0) u8, (LL.tells K.the-type K′.the-laws, (uint-tells w64, tt)))))))
-      (λ κs qs bounds a _ are. via 𝓤 _ (fst∗ 𝓤 _ (emp 𝓤)) (walk 𝓤 H A W mem run (κs .0) (qs .0) (a .0) (a .1 .0) (a .1 .1 .0) (a .1 .1 .1 .0) (a .1 .1 .1 .1 .0) (a .1 .1 .1 .1 .1 .0)
+      (λ κs. (
+        shr-slice-tells (named 0) (κs .0) u8,
+        (
+          shr-slice-tells (named 0) (κs .0) u8,
+          (
+            shr-slice-tells (named 0) (κs .0) T.the-row,
+            (shr-slice-tells (named 0) (κs .0) u8, (LL.tells K.the-type K′.the-laws, (uint-tells w64, tt))),
+          ),
+        ),
+      ))
+      (λ κs qs bounds a _ are. via 𝓤 _ (fst∗ 𝓤 _ (emp 𝓤)) (walk 𝓤 H A W mem run (κs .0) (qs .0) (a .0) (a .1 .0) (a .1 .1 .0) (a .1 .1 .1 .0)
+      (a .1 .1 .1 .1 .0) (a .1 .1 .1 .1 .1 .0)
       (are .0 .0 .1) (are .1 .0 .0 .1) (are .1 .1 .0 .0 .1) (are .1 .1 .1 .0 .0 .1) (are .1 .1 .1 .1 .0) (are .1 .1 .1 .1 .1 .0 .1) C Λ fm known₁ known₂))
 
 meets : {M : Type 1} (𝓤 : URA M) (H : Heap 𝓤) (A : Atoms 𝓤) (W : Given 𝓤 H A) (mem : Memory → SProp 𝓤) (run : Routine → Fun 𝓤) (𝓣 : Tables 𝓤 H)
     → Triple 𝓤 (𝓣 .C #blocks·look) (Look 𝓤 H A mem run) → Triple 𝓤 (𝓣 .C #reading·value-with) (Work 𝓤 H A mem run)
     → Meets 𝓤 H A F.signature (WpFn 𝓤 H (𝓣 .C) (𝓣 .Λ) code.function) (F.spec 𝓤 H A mem run)
-meets 𝓤 H A W mem run 𝓣 known₁ known₂ = walk-meets 𝓤 H A F.ended stayed W (goes-none-slice 𝓤 H A W 1 (0 ∷ []) tt (plain (λ _. u8)) yes, (goes-none-slice 𝓤 H A W 1 (0 ∷ []) tt (plain (λ _. u8)) yes, (goes-none-slice 𝓤 H A W 1 (0 ∷ []) tt (plain (λ _. T.the-row)) yes, (goes-none-slice 𝓤 H A W 1 (0 ∷ []) tt (plain (λ _. u8)) yes, (goes-none 𝓤 H A W 1 (λ _. K.the-row) yes (λ κs x f. refl), (goes-none 𝓤 H A W 1 (λ _. usize) yes (λ κs x f. refl), tt))))))
-    (F.clauses 𝓤 H A mem run) (WpFn 𝓤 H (𝓣 .C) (𝓣 .Λ) code.function) (WpFn-mono 𝓤 H (W .laws) 𝓣 code.function) (walks 𝓤 H A W mem run (𝓣 .C) (𝓣 .Λ) (fmOf 𝓤 H (W .laws) 𝓣) known₁ known₂)
+meets 𝓤 H A W mem run 𝓣 known₁ known₂ = walk-meets 𝓤 H A F.ended stayed W (
+  goes-none-slice 𝓤 H A W 1 (0 ∷ []) tt (plain (λ _. u8)) yes,
+  (
+    goes-none-slice 𝓤 H A W 1 (0 ∷ []) tt (plain (λ _. u8)) yes,
+    (
+      goes-none-slice 𝓤 H A W 1 (0 ∷ []) tt (plain (λ _. T.the-row)) yes,
+      (
+        goes-none-slice 𝓤 H A W 1 (0 ∷ []) tt (plain (λ _. u8)) yes,
+        (
+          goes-none 𝓤 H A W 1 (λ _. K.the-row) yes (λ κs x f. refl),
+          (goes-none 𝓤 H A W 1 (λ _. usize) yes (λ κs x f. refl), tt),
+        ),
+      ),
+    ),
+  ),
+)
+    (F.clauses 𝓤 H A mem run) (WpFn 𝓤 H (𝓣 .C) (𝓣 .Λ) code.function) (WpFn-mono 𝓤 H (W .laws) 𝓣 code.function) (walks 𝓤 H A W mem run (𝓣 .C) (𝓣 .Λ)
+    (fmOf 𝓤 H (W .laws) 𝓣) known₁ known₂)
 
 pub value-spec : {M : Type 1} → stated.statement M
 unfolding code.routine tablesOf

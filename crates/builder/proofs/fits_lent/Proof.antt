@@ -20,7 +20,8 @@ unfolding roomOfBlocks
 state-fits-requires c κs = rw (c .before .blocks-room .ensures) (omega arith)
 
 returns : tie.Need-returns
-returns c = c .state-fits .ensures ∙ fits-is _ _ _ _ _ _ _ _ _ _ (c .before .before .before .rows-room .ensures) (c .before .before .blocks-room .ensures) (c .before .bytes-room .ensures)
+returns c = c .state-fits .ensures ∙ fits-is _ _ _ _ _ _ _ _ _ _ (c .before .before .before .rows-room .ensures)
+    (c .before .before .blocks-room .ensures) (c .before .bytes-room .ensures)
 
 pub fits-lent-spec : {M : Type 1} → statement M
 fits-lent-spec =

@@ -20,7 +20,9 @@ same-length : tie.Need-same-length
 same-length c = search needs
 
 returns : tie.Need-returns
-returns c = tail-paste (c .before .before .before .before .before .before .args .at) (now (c .before .before .before .before .before .before .args .bytes)) _ (now (c .before .before .before .before .before .before .args .x)) (c .before .before .copy .ensures)
+returns c =
+    let b6 = c .before .before .before .before .before .before in
+    tail-paste (b6 .args .at) (now (b6 .args .bytes)) _ (now (b6 .args .x)) (c .before .before .copy .ensures)
 
 pub lay-spec : {M : Type 1} → statement M
 lay-spec =

@@ -28,8 +28,17 @@ least-requires-4 c κs = search needs
 returns : tie.Need-returns
 unfolding roomOfRows
 returns c =
-    let e : min 32767 (min (c .before .before .before .before .before .args .views / 16) (8 * min (c .before .before .before .before .before .args .nulls) 4096)) ≡ min 32767 (min (c .before .before .before .before .before .args .views / 16) (8 * c .before .before .before .before .before .args .nulls)) = map-enough (c .before .before .before .before .before .args .views / 16) (c .before .before .before .before .before .args .nulls) in
-    c .least4 .ensures ∙ rw (c .before .places-room .ensures, c .before .before .least3 .ensures, c .before .before .before .least2 .ensures, c .before .before .before .before .least .ensures, e, row-limit-is)
+    let b5 = c .before .before .before .before .before in
+    let e : min 32767 (min (b5 .args .views / 16) (8 * min (b5 .args .nulls) 4096)) ≡ min 32767 (min (b5 .args .views / 16) (8 * b5 .args .nulls)) =
+    map-enough (b5 .args .views / 16) (b5 .args .nulls) in
+    c .least4 .ensures ∙ rw (
+      c .before .places-room .ensures,
+      c .before .before .least3 .ensures,
+      c .before .before .before .least2 .ensures,
+      c .before .before .before .before .least .ensures,
+      e,
+      row-limit-is,
+    )
 
 pub rows-room-spec : {M : Type 1} → statement M
 rows-room-spec =

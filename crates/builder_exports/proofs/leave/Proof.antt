@@ -14,10 +14,14 @@ numbers-of-requires : tie.Need-numbers-of-requires
 numbers-of-requires c κs = search needs
 
 returns : tie.Need-returns
-returns c = accepted-yes (c .before .before .before .before .args .a .why) (c .before .before .before .before .args .a .why) (numbersOf (c .before .before .before .before .args .a .state)) (now (c .before .before .before .before .args .state)) _ refl (sym (c .before .before .is-accepted .ensures) ∙ c .before .if1 .taken) (c .numbers-of .ensures)
+returns c = accepted-yes (c .before .before .before .before .args .a .why) (c .before .before .before .before .args .a .why)
+    (numbersOf (c .before .before .before .before .args .a .state)) (now (c .before .before .before .before .args .state)) _ refl
+    (sym (c .before .before .is-accepted .ensures) ∙ c .before .if1 .taken) (c .numbers-of .ensures)
 
 returns-2 : tie.Need-returns-2
-returns-2 c = accepted-no (c .before .before .before .args .a .why) (c .before .before .before .args .a .why) (numbersOf (c .before .before .before .args .a .state)) (now (c .before .before .before .args .state)) _ refl (sym (c .before .is-accepted .ensures) ∙ c .if1 .left) refl
+returns-2 c = accepted-no (c .before .before .before .args .a .why) (c .before .before .before .args .a .why)
+    (numbersOf (c .before .before .before .args .a .state)) (now (c .before .before .before .args .state)) _ refl
+    (sym (c .before .is-accepted .ensures) ∙ c .if1 .left) refl
 
 pub leave-spec : {M : Type 1} → statement M
 leave-spec = tie.close (tie.spec is-accepted-requires numbers-of-requires returns returns-2)

@@ -23,7 +23,9 @@ flag-number-requires : tie.Need-flag-number-requires
 flag-number-requires c κs = search needs
 
 returns : tie.Need-returns
-returns c = numbers-are (c .before .before .before .before .before .before .args .s) _ _ _ _ _ _ (c .before .before .before .before .before .kind-number .ensures) (c .before .before .before .before .growth-number .ensures) (c .before .before .before .growth-size .ensures) (c .before .before .merging-number .ensures) (c .before .merging-most .ensures) (c .flag-number .ensures)
+returns c = numbers-are (c .before .before .before .before .before .before .args .s) _ _ _ _ _ _
+    (c .before .before .before .before .before .kind-number .ensures) (c .before .before .before .before .growth-number .ensures)
+    (c .before .before .before .growth-size .ensures) (c .before .before .merging-number .ensures) (c .before .merging-most .ensures) (c .flag-number .ensures)
 
 pub numbers-of-spec : {M : Type 1} → statement M
 numbers-of-spec =

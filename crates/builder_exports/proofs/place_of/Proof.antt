@@ -19,7 +19,9 @@ add-t14 : tie.Need-add-t14
 add-t14 c = search needs
 
 returns : tie.Need-returns
-returns c = stands-short (c .before .before .before .before .before .before .args .s) (now (c .before .before .before .before .before .before .args .starts)) _ _ _ (c .before .view-len .ensures .0) (c .if1 .taken)
+returns c =
+    let b6 = c .before .before .before .before .before .before in
+    stands-short (b6 .args .s) (now (b6 .args .starts)) _ _ _ (c .before .view-len .ensures .0) (c .if1 .taken)
 
 view-block-requires : tie.Need-view-block-requires
 view-block-requires c κs = search needs
@@ -31,10 +33,17 @@ view-offset-requires : tie.Need-view-offset-requires
 view-offset-requires c κs = search needs
 
 add-offset : tie.Need-add-offset
-add-offset c = let g = row-start _ _ _ _ _ _ (c .before .before .before .before .before .before .before .before .before .pre .0) _ (c .before .before .before .before .view-len .ensures .0) (omega arith) _ (c .before .before .view-block .ensures .0) (c .before .before .before .before .before .before .before .before .before .pre .2) _ (c .view-offset .ensures .0) _ (c .before .at-or .ensures) in omega (arith, g .1, byte-limit-small)
+add-offset c =
+    let b9 = c .before .before .before .before .before .before .before .before .before in
+    let g = row-start _ _ _ _ _ _ (b9 .pre .0) _ (c .before .before .before .before .view-len .ensures .0) (omega arith) _
+    (c .before .before .view-block .ensures .0) (b9 .pre .2) _ (c .view-offset .ensures .0) _ (c .before .at-or .ensures) in
+    omega (arith, g .1, byte-limit-small)
 
 returns-2 : tie.Need-returns-2
-returns-2 c = stands-long (c .before .before .before .before .before .before .before .before .before .args .s) (now (c .before .before .before .before .before .before .before .before .before .args .starts)) _ _ _ _ (c .before .before .before .before .view-len .ensures .0) (omega arith) (placed-is _ _ _ _ _ _ (c .before .before .view-block .ensures .0) (c .view-offset .ensures .0) (c .before .at-or .ensures))
+returns-2 c =
+    let b9 = c .before .before .before .before .before .before .before .before .before in
+    stands-long (b9 .args .s) (now (b9 .args .starts)) _ _ _ _ (c .before .before .before .before .view-len .ensures .0) (omega arith)
+    (placed-is _ _ _ _ _ _ (c .before .before .view-block .ensures .0) (c .view-offset .ensures .0) (c .before .at-or .ensures))
 
 pub place-of-spec : {M : Type 1} → statement M
 place-of-spec =

@@ -29,7 +29,8 @@ merging-of-requires : tie.Need-merging-of-requires
 merging-of-requires c κs = search needs
 
 returns : tie.Need-returns
-returns c = settings-is _ _ _ _ (c .before .before .before .before .before .before .kind-of .ensures) (c .before .before .before .sizes-of .ensures) (c .merging-of .ensures)
+returns c = settings-is _ _ _ _ (c .before .before .before .before .before .before .kind-of .ensures) (c .before .before .before .sizes-of .ensures)
+    (c .merging-of .ensures)
 
 pub settings-of-spec : {M : Type 1} → statement M
 settings-of-spec =

@@ -47,7 +47,9 @@ element-copy-out-t37 : tie.Need-element-copy-out-t37
 element-copy-out-t37 c = search needs
 
 returns : tie.Need-returns
-returns c = state-is _ _ _ _ (c .before .before .before .before .before .before .before .before .before .before .before .before .kind-of .ensures) (c .before .before .before .before .before .before .before .before .before .growth-of .ensures) (c .before .before .before .before .before .before .merging-of .ensures)
+returns c =
+    let b9 = c .before .before .before .before .before .before .before .before .before in let b12 = b9 .before .before .before in
+    state-is _ _ _ _ (b12 .kind-of .ensures) (b9 .growth-of .ensures) (c .before .before .before .before .before .before .merging-of .ensures)
 
 pub state-of-spec : {M : Type 1} → statement M
 state-of-spec =

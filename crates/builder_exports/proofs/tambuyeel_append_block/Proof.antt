@@ -23,7 +23,12 @@ same-length-3 : tie.Need-same-length-3
 same-length-3 c = search needs
 
 returns : tie.Need-returns
-returns c = (exported _ _ _ _ _ _ _ _ _ _ _ _ _ _ _ _ _ (c .before .before .before .before .before .before .before .before .before .before .before .before .before .state-of .ensures) (c .before .before .before .before .before .before .before .before .before .append-block .ensures .0) _ _ (c .tell .ensures .0) (c .tell .ensures .1), rw (c .before .before .before .before .before .before .before .before .before .before .before .before .before .state-of .ensures) at (c .before .before .before .before .before .before .before .before .before .append-block .ensures .1))
+returns c =
+    let b9 = c .before .before .before .before .before .before .before .before .before in let b13 = b9 .before .before .before .before in (
+      exported _ _ _ _ _ _ _ _ _ _ _ _ _ _ _ _ _ (b13 .state-of .ensures) (b9 .append-block .ensures .0) _ _ (c .tell .ensures .0)
+          (c .tell .ensures .1),
+      rw (b13 .state-of .ensures) at (b9 .append-block .ensures .1),
+    )
 
 pub tambuyeel-append-block-spec : {M : Type 1} → statement M
 tambuyeel-append-block-spec =

@@ -37,7 +37,15 @@ same-length-5 : tie.Need-same-length-5
 same-length-5 c = search needs
 
 returns : tie.Need-returns
-returns c = let d = rw (c .before .before .before .before .before .before .before .before .before .before .before .before .before .before .column-of .ensures) at (c .before .before .before .before .before .before .before .before .before .before .before .before .before .append-column .ensures) in (exported _ _ _ _ _ _ _ _ _ _ _ _ _ _ _ _ _ (c .before .before .before .before .before .before .before .before .before .before .before .before .before .before .before .before .before .before .before .before .state-of .ensures) d _ _ (ap (λ (t : Told). t .number) (c .told-why .ensures) ∙ told-number (c .before .before .before .before .before .before .before .before .before .before .before .before .before .append-column .result .why)) (c .before .leave .ensures), told-left _ _ _ _ _ _ _ _ _ _ _ _ _ _ _ _ _ (c .before .before .before .before .before .before .before .before .before .before .before .before .before .before .before .before .before .before .before .before .state-of .ensures) d _ (c .told-why .ensures))
+returns c =
+    let b13 = c .before .before .before .before .before .before .before .before .before .before .before .before .before in let b14 = b13 .before in
+    let b20 = b14 .before .before .before .before .before .before in
+    let d = rw (b14 .column-of .ensures) at (b13 .append-column .ensures) in (
+      exported _ _ _ _ _ _ _ _ _ _ _ _ _ _ _ _ _ (b20 .state-of .ensures) d _
+          _ (ap (λ (t : Told). t .number) (c .told-why .ensures) ∙ told-number (b13 .append-column .result .why)) (c .before .leave .ensures),
+      told-left
+          _ _ _ _ _ _ _ _ _ _ _ _ _ _ _ _ _ (b20 .state-of .ensures) d _ (c .told-why .ensures),
+    )
 
 pub tambuyeel-append-column-spec : {M : Type 1} → statement M
 tambuyeel-append-column-spec =

@@ -20,7 +20,10 @@ same-length-2 : tie.Need-same-length-2
 same-length-2 c = search needs
 
 returns : tie.Need-returns
-returns c = exported _ _ _ _ _ _ _ _ _ _ _ _ _ _ _ _ _ (c .before .before .before .before .before .before .before .before .before .state-of .ensures) (c .before .before .before .before .before .before .append-view .ensures) _ _ (c .tell .ensures .0) (c .tell .ensures .1)
+returns c =
+    let b9 = c .before .before .before .before .before .before .before .before .before in
+    exported _ _ _ _ _ _ _ _ _ _ _ _ _ _ _ _ _ (b9 .state-of .ensures) (c .before .before .before .before .before .before .append-view .ensures) _ _
+    (c .tell .ensures .0) (c .tell .ensures .1)
 
 pub tambuyeel-append-view-spec : {M : Type 1} → statement M
 tambuyeel-append-view-spec =

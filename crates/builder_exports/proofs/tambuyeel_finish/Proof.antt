@@ -28,7 +28,14 @@ same-length-3 c = search needs
 
 returns : tie.Need-returns
 unfolding finishColumn
-returns c = (exported _ _ _ _ _ _ _ _ _ _ _ _ _ _ _ _ _ (c .before .before .before .before .before .before .before .before .before .before .before .before .before .before .before .before .state-of .ensures) (c .before .before .before .before .before .before .before .before .before .before .before .before .finish .ensures .0) _ _ (c .tell .ensures .0) (c .tell .ensures .1), rw (c .before .before .before .before .before .before .before .before .before .before .before .before .before .before .before .before .state-of .ensures) at (column-left _ _ _ _ _ _ _ _ _ _ _ _ _ _ _ _ _ (c .before .before .before .before .before .before .before .before .before .before .before .before .before .before .before .before .state-of .ensures) (c .before .before .before .before .before .before .before .before .before .before .before .before .finish .ensures .0) _ _ _ _ _ (c .before .before .before .before .before .before .before .before .before .before .before .before .finish .ensures .1) (c .before .before .hand .ensures)))
+returns c =
+    let b12 = c .before .before .before .before .before .before .before .before .before .before .before .before in
+    let b16 = b12 .before .before .before .before in (
+      exported _ _ _ _ _ _ _ _ _ _ _ _ _ _ _ _ _ (b16 .state-of .ensures) (b12 .finish .ensures .0) _ _ (c .tell .ensures .0) (c .tell .ensures .1),
+      rw
+          (b16 .state-of .ensures) at (column-left _ _ _ _ _ _ _ _ _ _ _ _ _ _ _ _ _ (b16 .state-of .ensures) (b12 .finish .ensures .0) _ _ _ _ _
+          (b12 .finish .ensures .1) (c .before .before .hand .ensures)),
+    )
 
 pub tambuyeel-finish-spec : {M : Type 1} → statement M
 tambuyeel-finish-spec =

@@ -25,7 +25,13 @@ same-length-2 c = search needs
 
 returns : tie.Need-returns
 unfolding finishColumn
-returns c = (exported _ _ _ _ _ _ _ _ _ _ _ _ _ _ _ _ _ (c .before .before .before .before .before .before .before .before .before .before .before .before .before .state-of .ensures) (c .before .before .before .before .before .before .before .before .before .before .finish-copy .ensures .0) _ _ (c .tell .ensures .0) (c .tell .ensures .1), rw (c .before .before .before .before .before .before .before .before .before .before .before .before .before .state-of .ensures) at (column-left _ _ _ _ _ _ _ _ _ _ _ _ _ _ _ _ _ (c .before .before .before .before .before .before .before .before .before .before .before .before .before .state-of .ensures) (c .before .before .before .before .before .before .before .before .before .before .finish-copy .ensures .0) _ _ _ _ _ (c .before .before .before .before .before .before .before .before .before .before .finish-copy .ensures .1) (c .before .before .hand .ensures)))
+returns c =
+    let b10 = c .before .before .before .before .before .before .before .before .before .before in let b13 = b10 .before .before .before in (
+      exported _ _ _ _ _ _ _ _ _ _ _ _ _ _ _ _ _ (b13 .state-of .ensures) (b10 .finish-copy .ensures .0) _ _ (c .tell .ensures .0)
+          (c .tell .ensures .1),
+      rw (b13 .state-of .ensures) at (column-left _ _ _ _ _ _ _ _ _ _ _ _ _ _ _ _ _ (b13 .state-of .ensures)
+          (b10 .finish-copy .ensures .0) _ _ _ _ _ (b10 .finish-copy .ensures .1) (c .before .before .hand .ensures)),
+    )
 
 pub tambuyeel-finish-by-copy-spec : {M : Type 1} → statement M
 tambuyeel-finish-by-copy-spec =

@@ -25,16 +25,21 @@ cast-t13 : tie.Need-cast-t13
 cast-t13 c = search needs
 
 returns : tie.Need-returns
-returns c = rw (c .before .before .before .before .before .state-of .ensures) at (got-not _ _ _ _ _ _ _ _ _ (c .before .before .before .before .why-get .ensures) _ (c .before .before .why .given .1) _ (c .number .ensures))
+returns c = rw (c .before .before .before .before .before .state-of .ensures) at (got-not _ _ _ _ _ _ _ _ _
+    (c .before .before .before .before .why-get .ensures) _ (c .before .before .why .given .1) _ (c .number .ensures))
 
 enum-told : tie.Need-enum-told
 enum-told c = search needs
 
 place-of-requires : tie.Need-place-of-requires
-place-of-requires c κs = let a = c .before .before .before .before .before .before .before .before .before .before .args in let g = got (c .before .before .before .state-of .result) (now (a .views)) (now (a .bytes)) (now (a .starts)) (now (a .lens)) (now (a .nulls)) (now (a .places)) (a .row) (ap isAccepted (sym (c .before .before .why-get .ensures) ∙ c .enum-told .given .1)) in (ready _ _ _ _ _ _ _ (fits-gives _ _ _ _ _ _ _ (g .fit)), g .row, g .reach)
+place-of-requires c κs = let a = c .before .before .before .before .before .before .before .before .before .before .args in
+    let g = got (c .before .before .before .state-of .result) (now (a .views)) (now (a .bytes)) (now (a .starts)) (now (a .lens)) (now (a .nulls))
+    (now (a .places)) (a .row) (ap isAccepted (sym (c .before .before .why-get .ensures) ∙ c .enum-told .given .1)) in
+    (ready _ _ _ _ _ _ _ (fits-gives _ _ _ _ _ _ _ (g .fit)), g .row, g .reach)
 
 returns-2 : tie.Need-returns-2
-returns-2 c = rw (c .before .before .before .before .state-of .ensures) at (got-there _ _ _ _ _ _ _ _ _ (c .before .before .before .why-get .ensures) (c .before .enum-told .given .1) _ (c .place-of .ensures))
+returns-2 c = rw (c .before .before .before .before .state-of .ensures) at (got-there _ _ _ _ _ _ _ _ _ (c .before .before .before .why-get .ensures)
+    (c .before .enum-told .given .1) _ (c .place-of .ensures))
 
 pub tambuyeel-get-value-spec : {M : Type 1} → statement M
 tambuyeel-get-value-spec =

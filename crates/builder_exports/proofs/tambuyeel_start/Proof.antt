@@ -17,7 +17,10 @@ same-length : tie.Need-same-length
 same-length c = search needs
 
 returns : tie.Need-returns
-returns c = let g = rw (c .before .before .before .before .before .before .settings-of .ensures) at (start-left _ _ _ _ _ (c .before .before .before .before .start .ensures .0) (c .tell .ensures .0) (c .tell .ensures .1)) in (g .0, g .1, rw (c .before .before .before .before .before .before .settings-of .ensures) at (c .before .before .before .before .start .ensures .1))
+returns c =
+    let b6 = c .before .before .before .before .before .before in
+    let g = rw (b6 .settings-of .ensures) at (start-left _ _ _ _ _ (c .before .before .before .before .start .ensures .0) (c .tell .ensures .0)
+    (c .tell .ensures .1)) in (g .0, g .1, rw (b6 .settings-of .ensures) at (c .before .before .before .before .start .ensures .1))
 
 pub tambuyeel-start-spec : {M : Type 1} → statement M
 tambuyeel-start-spec =

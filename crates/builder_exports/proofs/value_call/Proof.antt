@@ -32,7 +32,10 @@ same-length-6 : tie.Need-same-length-6
 same-length-6 c = search needs
 
 returns : tie.Need-returns
-returns c = exported _ _ _ _ _ _ _ _ _ _ _ _ _ _ _ _ _ (c .before .before .before .before .before .before .before .before .before .before .before .before .before .before .before .before .before .before .before .before .before .state-of .ensures) (c .before .before .before .before .before .before .before .before .before .before .before .before .before .before .append-values .ensures) _ _ (c .tell .ensures .0) (c .tell .ensures .1)
+returns c =
+    let b14 = c .before .before .before .before .before .before .before .before .before .before .before .before .before .before in
+    let b21 = b14 .before .before .before .before .before .before .before in
+    exported _ _ _ _ _ _ _ _ _ _ _ _ _ _ _ _ _ (b21 .state-of .ensures) (b14 .append-values .ensures) _ _ (c .tell .ensures .0) (c .tell .ensures .1)
 
 pub value-call-spec : {M : Type 1} → statement M
 value-call-spec =

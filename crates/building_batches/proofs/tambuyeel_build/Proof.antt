@@ -9,7 +9,8 @@ use Rattle.building_batches.proofs.tambuyeel_build.Tie as tie
 
 abbrev Inv-loop : tie.InvT-loop
 Inv-loop views₀ bytes₀ starts₀ lens₀ nulls₀ places₀ all ends merge s₀ a₀ k₀ views bytes starts lens nulls places s a k =
-    (length views ≡ length views₀) × (length bytes ≡ length bytes₀) × (length starts ≡ length starts₀) × (length lens ≡ length lens₀) × (length nulls ≡ length nulls₀) × (length places ≡ length places₀) × (a ≤ length all) × (k ≤ length ends) × (length ends < 2 ^ 64)
+    (length views ≡ length views₀) × (length bytes ≡ length bytes₀) × (length starts ≡ length starts₀) × (length lens ≡ length lens₀)
+    × (length nulls ≡ length nulls₀) × (length places ≡ length places₀) × (a ≤ length all) × (k ≤ length ends) × (length ends < 2 ^ 64)
 
 abbrev μ-loop : tie.MeasureT-loop
 μ-loop views₀ bytes₀ starts₀ lens₀ nulls₀ places₀ all ends merge s₀ a₀ k₀ views bytes starts lens nulls places s a k =
@@ -79,7 +80,11 @@ turn-requires : tie.Need-turn-requires Inv-loop μ-loop
 turn-requires c κs = search needs
 
 add-k : tie.Need-add-k Inv-loop μ-loop
-add-k c = omega (arith, c .before .before .before .before .before .before .before .before .before .before .before .before .before .before .before .before .before .before .before .before .before .before .before .before .loop .inv, c .before .before .before .before .before .before .before .before .before .before .before .before .before .before .before .before .before .before .before .before .before .before .before .loop-test .taken)
+add-k c =
+    let b23 = c .before .before .before .before .before .before .before .before .before .before .before .before .before .before .before .before
+    .before .before .before .before .before .before .before in
+    let b24 = b23 .before in
+    omega (arith, b24 .loop .inv, b23 .loop-test .taken)
 
 loop-less : tie.Need-loop-less Inv-loop μ-loop
 loop-less c = search needs

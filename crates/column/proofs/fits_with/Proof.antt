@@ -33,7 +33,8 @@ returns-5 c = (λ h. absurd (true≢false (sym h)), λ bytes table e. over-block
 returns-6 : tie.Need-returns-6
 returns-6 c = (
   λ h. omega arith,
-  λ bytes table e. fits-is _ _ _ _ _ _ e (omega (arith, row-limit-is)) (omega arith) (sym (c .before .before .map-holds .ensures) ∙ not-false _ (c .before .if4 .left)) (omega (arith, block-limit-is)),
+  λ bytes table e. fits-is _ _ _ _ _ _ e (omega (arith, row-limit-is)) (omega arith) (sym (c .before .before .map-holds .ensures)
+      ∙ not-false _ (c .before .if4 .left)) (omega (arith, block-limit-is)),
 )
 
 pub fits-with-spec : {M : Type 1} → statement M

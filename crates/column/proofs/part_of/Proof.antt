@@ -58,7 +58,11 @@ part-result-end-3 : tie.Need-part-result-end-3
 part-result-end-3 c = search needs
 
 returns-3 : tie.Need-returns-3
-returns-3 c = (no-bytes _ _ _ 0 0 (ap (λ (s : Spot). isInside (reachBy s)) (c .before .enum-told .given .1)), points-none _ _ _ _ 0 0 (ap (λ (s : Spot). isInside (reachBy s)) (c .before .enum-told .given .1)) refl)
+returns-3 c = (
+  no-bytes _ _ _ 0 0 (ap (λ (s : Spot). isInside (reachBy s)) (c .before .enum-told .given .1)),
+  points-none _ _ _ _ 0 0
+      (ap (λ (s : Spot). isInside (reachBy s)) (c .before .enum-told .given .1)) refl,
+)
 
 enum-told-2 : tie.Need-enum-told-2
 enum-told-2 c = search needs
@@ -73,7 +77,11 @@ part-result-end-4 : tie.Need-part-result-end-4
 part-result-end-4 c = search needs
 
 returns-4 : tie.Need-returns-4
-returns-4 c = (no-bytes _ _ _ 0 0 (ap (λ (s : Spot). isInside (reachBy s)) (c .before .enum-told2 .given .1)), points-none _ _ _ _ 0 0 (ap (λ (s : Spot). isInside (reachBy s)) (c .before .enum-told2 .given .1)) refl)
+returns-4 c = (
+  no-bytes _ _ _ 0 0 (ap (λ (s : Spot). isInside (reachBy s)) (c .before .enum-told2 .given .1)),
+  points-none _ _ _ _ 0 0
+      (ap (λ (s : Spot). isInside (reachBy s)) (c .before .enum-told2 .given .1)) refl,
+)
 
 pub part-of-spec : {M : Type 1} → statement M
 part-of-spec =

@@ -35,7 +35,9 @@ shared-slice-read-t13 : tie.Need-shared-slice-read-t13
 shared-slice-read-t13 c = search needs
 
 returns-3 : tie.Need-returns-3
-returns-3 c = λ l h. let s = c .before .before .before .before .before .before .before .before .before .args in let k = c .before .before .before .view-block in sym (table-at (now (s .starts)) (now (s .lens)) (k .result) (omega arith) (omega arith)) ∙ ap (λ (j : ℕ). getD (tableOf (now (s .starts)) (now (s .lens))) j (block 0 0)) (k .ensures .0)
+returns-3 c = λ l h. let s = c .before .before .before .before .before .before .before .before .before .args in
+    let k = c .before .before .before .view-block in sym (table-at (now (s .starts)) (now (s .lens)) (k .result) (omega arith) (omega arith))
+    ∙ ap (λ (j : ℕ). getD (tableOf (now (s .starts)) (now (s .lens))) j (block 0 0)) (k .ensures .0)
 
 pub record-at-spec : {M : Type 1} → statement M
 record-at-spec =

@@ -14,10 +14,12 @@ part-of-requires : tie.Need-part-of-requires
 part-of-requires c κs = found-lies _ _ _ _ _ _ _ (c .spot-at .ensures) (c .before .before .before .before .before .pre .0 .row)
 
 returns : tie.Need-returns
-returns c = let s = c .before .before .before .before .before .before .args in (
-  c .part-of .ensures .0 ∙ spot-shown _ _ _ _ _ _ _ (c .before .spot-at .ensures) (found-reach _ _ _ _ _ _ _ (c .before .spot-at .ensures) ∙ c .before .before .before .before .before .before .pre .1),
-  c .part-of .ensures .1 ∙ ap (pointsTo (ptr (s .views)) (ptr (s .bytes))) (c .before .spot-at .ensures),
-)
+returns c =
+    let b6 = c .before .before .before .before .before .before in
+    let s = b6 .args in (
+      c .part-of .ensures .0 ∙ spot-shown _ _ _ _ _ _ _ (c .before .spot-at .ensures) (found-reach _ _ _ _ _ _ _ (c .before .spot-at .ensures) ∙ b6 .pre .1),
+      c .part-of .ensures .1 ∙ ap (pointsTo (ptr (s .views)) (ptr (s .bytes))) (c .before .spot-at .ensures),
+    )
 
 pub value-part-spec : {M : Type 1} → statement M
 value-part-spec = tie.close (tie.spec spot-at-requires part-of-requires returns)

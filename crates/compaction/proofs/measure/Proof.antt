@@ -18,7 +18,8 @@ use Rattle.compaction.proofs.measure.Statement.{statement}
 use Rattle.compaction.proofs.measure.Tie as tie
 
 abbrev Inv-loop : tie.InvT-loop
-Inv-loop views bytes starts lens most first rows blocks kind s₀ k₀ s k = (k ≤ rows) × ((r : ℕ) → r < k → isTrue (bare views bytes starts lens) kind blocks (viewAt views (first + r)) ≡ true)
+Inv-loop views bytes starts lens most first rows blocks kind s₀ k₀ s k = (k ≤ rows) × ((r : ℕ) → r < k → isTrue (bare views bytes starts lens) kind
+    blocks (viewAt views (first + r)) ≡ true)
     × (s ≡ standOf (cutAll most (longOf (λ r. lengthOf (viewAt views (first + r))) (λ r. lengthOf (viewAt views (first + r))) k)))
     × (s .base + s .fill ≤ 4294967296 * k) × (s .closed ≤ k)
 
@@ -32,7 +33,9 @@ add-at : tie.Need-add-at Inv-loop μ-loop
 add-at c = omega (arith, row-limit-small)
 
 is-true-at-requires : tie.Need-is-true-at-requires Inv-loop μ-loop
-is-true-at-requires c κs = record { row = omega arith; starts = c .before .before .before .before .before .before .pre .starts; lens = c .before .before .before .before .before .before .pre .lens }
+is-true-at-requires c κs =
+    let b6 = c .before .before .before .before .before .before in
+    record { row = omega arith; starts = b6 .pre .starts; lens = b6 .pre .lens }
 
 returns : tie.Need-returns Inv-loop μ-loop
 returns c = record {
@@ -57,11 +60,13 @@ loop-less c = omega arith
 
 loop-again : tie.Need-loop-again Inv-loop μ-loop
 loop-again c =
-    let s = c .before .before .before .before .before .before .before .before .before .before .args in
+    let b10 = c .before .before .before .before .before .before .before .before .before .before in
+    let s = b10 .args in
     let l = c .before .before .before .before .before .loop in
     let g = next-grows _ _ _ _ (c .step .ensures) in (
       omega arith,
-      below-more (λ (r : ℕ). trueAt (s .c .kind) (bare (now (s .views)) (now (s .bytes)) (now (s .starts)) (now (s .lens))) (s .c) r ≡ true) _ (l .inv .1) (sym (c .before .before .before .is-true-at .ensures) ∙ not-false _ (c .before .before .if1 .left)),
+      below-more (λ (r : ℕ). trueAt (s .c .kind) (bare (now (s .views)) (now (s .bytes)) (now (s .starts)) (now (s .lens))) (s .c) r ≡ true) _
+          (l .inv .1) (sym (c .before .before .before .is-true-at .ensures) ∙ not-false _ (c .before .before .if1 .left)),
       stand-next _ _ _ _ _ _ (c .before .view-len .ensures .0) (l .inv .2) (c .step .ensures),
       omega (arith, c .before .view-len .ensures),
       omega arith,
@@ -72,7 +77,8 @@ returns-2 c = record {
   within = omega arith;
   truth = c .before .loop .inv .1;
   bad = λ h. absurd (omega arith);
-  stand = λ e. let q : c .before .loop .k ≡ c .before .before .before .before .before .before .args .c .rows = omega arith in rw (← q) (c .before .loop .inv .2);
+  stand = λ e. let q : c .before .loop .k ≡ c .before .before .before .before .before .before .args .c .rows = omega arith in
+      rw (← q) (c .before .loop .inv .2);
   small = record { bytes = omega (arith, row-limit-small); blocks = omega (arith, row-limit-small) };
 }
 

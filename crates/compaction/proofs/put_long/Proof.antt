@@ -14,7 +14,9 @@ put-value-requires c κs =
     record { row = p .row; place = omega arith; long = p .long; len = omega arith; block = omega arith; offset = omega arith }
 
 grown-requires : tie.Need-grown-requires
-grown-requires c κs = let g = roomed _ _ _ _ (c .before .before .before .before .before .before .before .room-for .ensures) in let p = c .before .before .before .before .before .before .before .before .before .before .before .pre in omega arith
+grown-requires c κs =
+    let b11 = c .before .before .before .before .before .before .before .before .before .before .before in
+    let g = roomed _ _ _ _ (c .before .before .before .before .before .before .before .room-for .ensures) in let p = b11 .pre in omega arith
 
 same-length : tie.Need-same-length
 same-length c = search needs

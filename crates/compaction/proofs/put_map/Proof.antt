@@ -6,7 +6,8 @@ use Rattle.compaction.proofs.put_map.Statement.{statement}
 use Rattle.compaction.proofs.put_map.Tie as tie
 
 copy-column-requires : tie.Need-copy-column-requires
-copy-column-requires c κs = let p = c .before .before .before .before .pre in let h = p .0 (c .before .if1 .taken) in (omega arith, omega arith, (λ e. h .1), omega arith)
+copy-column-requires c κs = let p = c .before .before .before .before .pre in let h = p .0 (c .before .if1 .taken) in
+    (omega arith, omega arith, (λ e. h .1), omega arith)
 
 same-length : tie.Need-same-length
 same-length c = search needs

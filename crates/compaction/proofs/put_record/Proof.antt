@@ -11,7 +11,9 @@ close-requires : tie.Need-close-requires
 close-requires c κs = let p = c .before .before .before .before .before .pre in let h = p .1 (omega arith) in (p .0, h .0, h .1)
 
 grown-requires : tie.Need-grown-requires
-grown-requires c κs = let g = roomed _ _ _ _ (c .before .before .before .before .close .ensures .0) in let p = c .before .before .before .before .before .before .before .before .before .before .pre .0 in omega arith
+grown-requires c κs =
+    let b10 = c .before .before .before .before .before .before .before .before .before .before in
+    let g = roomed _ _ _ _ (c .before .before .before .before .close .ensures .0) in let p = b10 .pre .0 in omega arith
 
 same-length : tie.Need-same-length
 same-length c = search needs
@@ -20,7 +22,8 @@ same-length-2 : tie.Need-same-length-2
 same-length-2 c = search needs
 
 returns-2 : tie.Need-returns-2
-returns-2 c = let g = c .before .before .before .before .before .close .ensures in table-long _ _ _ _ _ _ _ _ _ (omega arith) (g .0) (c .grown .ensures) (g .1 .0) (g .1 .1)
+returns-2 c = let g = c .before .before .before .before .before .close .ensures in table-long _ _ _ _ _ _ _ _ _ (omega arith) (g .0)
+    (c .grown .ensures) (g .1 .0) (g .1 .1)
 
 pub put-record-spec : {M : Type 1} → statement M
 put-record-spec =

@@ -28,17 +28,24 @@ same-length c = search needs
 
 returns : tie.Need-returns
 returns c =
-    let s = c .before .before .before .before .before .before .before .before .before .before .before .before .args in
+    let b12 = c .before .before .before .before .before .before .before .before .before .before .before .before in
+    let s = b12 .args in
     row-short _ _ _ _ _ _ _ _ _ _ (omega (arith, c .before .before .before .before .before .view-len .ensures))
-    (record { next = refl; views = c .before .before .copy16 .ensures ∙ view-paste (now (s .newviews)) (now (s .views)) (viewSize * s .row) (s .at); bytes = refl })
+    (record {
+      next = refl;
+      views = c .before .before .copy16 .ensures ∙ view-paste (now (s .newviews)) (now (s .views)) (viewSize * s .row) (s .at);
+      bytes = refl;
+    })
 
 value-part-requires : tie.Need-value-part-requires
 value-part-requires c κs = search needs
 
 put-long-requires : tie.Need-put-long-requires
 put-long-requires c κs =
-    let p = c .before .before .before .before .before .before .before .before .before .before .before .pre in
-    let e = ap length (c .before .before .value-part .ensures .0) ∙ length-shown _ _ _ _ _ _ _ (p .0 .0 .starts) (p .0 .0 .lens) (length-view _ _ (p .0 .0 .row)) (p .0 .1) in
+    let b11 = c .before .before .before .before .before .before .before .before .before .before .before in
+    let p = b11 .pre in
+    let e = ap length (c .before .before .value-part .ensures .0) ∙ length-shown _ _ _ _ _ _ _ (p .0 .0 .starts) (p .0 .0 .lens)
+    (length-view _ _ (p .0 .0 .row)) (p .0 .1) in
     rw e (p .1 .long (omega (arith, c .before .before .before .before .view-len .ensures)))
 
 same-length-2 : tie.Need-same-length-2
@@ -48,7 +55,10 @@ same-length-3 : tie.Need-same-length-3
 same-length-3 c = search needs
 
 returns-2 : tie.Need-returns-2
-returns-2 c = row-long _ _ _ _ _ _ _ _ _ _ _ (omega (arith, c .before .before .before .before .before .before .before .before .before .view-len .ensures)) (c .before .before .before .before .before .before .before .value-part .ensures .0) (c .before .before .before .before .put-long .ensures)
+returns-2 c =
+    let b9 = c .before .before .before .before .before .before .before .before .before in
+    row-long _ _ _ _ _ _ _ _ _ _ _ (omega (arith, b9 .view-len .ensures))
+    (c .before .before .before .before .before .before .before .value-part .ensures .0) (c .before .before .before .before .put-long .ensures)
 
 pub put-row-spec : {M : Type 1} → statement M
 put-row-spec =

@@ -8,10 +8,12 @@ returns : tie.Need-returns
 returns c = listed-empty _ _ _ _ _ _ _ (c .before .before .before .before .pre .1) (c .if1 .taken)
 
 slice-write-newstarts : tie.Need-slice-write-newstarts
-slice-write-newstarts c = let p = c .before .before .before .before .before .pre in let i = table-one _ _ _ _ _ _ _ (p .1) (p .0 .2) (c .if2 .taken) in omega arith
+slice-write-newstarts c = let p = c .before .before .before .before .before .pre in let i = table-one _ _ _ _ _ _ _ (p .1) (p .0 .2) (c .if2 .taken)
+    in omega arith
 
 slice-write-newlens : tie.Need-slice-write-newlens
-slice-write-newlens c = let p = c .before .before .before .before .before .pre in let i = table-one _ _ _ _ _ _ _ (p .1) (p .0 .2) (c .if2 .taken) in omega arith
+slice-write-newlens c = let p = c .before .before .before .before .before .pre in let i = table-one _ _ _ _ _ _ _ (p .1) (p .0 .2) (c .if2 .taken) in
+    omega arith
 
 same-length : tie.Need-same-length
 same-length c = search needs

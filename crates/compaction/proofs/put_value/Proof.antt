@@ -40,8 +40,12 @@ same-length-2 c = search needs
 
 returns : tie.Need-returns
 returns c =
-    let s = c .before .before .before .before .before .before .before .before .before .before .before .args in
-    (c .before .before .long-view .ensures, tail-paste (s .s .base + s .s .fill) (now (s .newbytes)) _ (now (s .value)) (c .before .before .before .before .before .before .copy .ensures))
+    let b11 = c .before .before .before .before .before .before .before .before .before .before .before in
+    let s = b11 .args in (
+      c .before .before .long-view .ensures,
+      tail-paste (s .s .base + s .s .fill) (now (s .newbytes)) _ (now (s .value))
+          (c .before .before .before .before .before .before .copy .ensures),
+    )
 
 pub put-value-spec : {M : Type 1} → statement M
 put-value-spec =

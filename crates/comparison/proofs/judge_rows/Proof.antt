@@ -16,7 +16,8 @@ use Rattle.comparison.proofs.judge_rows.Statement.{statement}
 use Rattle.comparison.proofs.judge_rows.Tie as tie
 
 abbrev Inv-loop : tie.InvT-loop
-Inv-loop views bytes starts lens first rows blocks k₀ k = (k ≤ rows) × ((r : ℕ) → r < k → reachable (bare views bytes starts lens) blocks (viewAt views (first + r)) ≡ true)
+Inv-loop views bytes starts lens first rows blocks k₀ k = (k ≤ rows) × ((r : ℕ) → r < k → reachable (bare views bytes starts lens) blocks
+    (viewAt views (first + r)) ≡ true)
 
 abbrev μ-loop : tie.MeasureT-loop
 μ-loop views bytes starts lens first rows blocks k₀ k = rows - k
@@ -31,7 +32,9 @@ reachable-at-requires : tie.Need-reachable-at-requires Inv-loop μ-loop
 reachable-at-requires c κs = record { row = omega arith; starts = omega arith; lens = omega arith }
 
 returns : tie.Need-returns Inv-loop μ-loop
-returns c = let s = c .before .before .before .before .before .before .before .before .args in lowest-bad (reachableAt (bare (now (s .views)) (now (s .bytes)) (now (s .starts)) (now (s .lens))) (s .c)) _ (s .c .rows) Accepted (omega arith) (c .before .before .before .loop .inv .1) (sym (c .before .reachable-at .ensures) ∙ not-true _ (c .if1 .taken))
+returns c = let s = c .before .before .before .before .before .before .before .before .args in
+    lowest-bad (reachableAt (bare (now (s .views)) (now (s .bytes)) (now (s .starts)) (now (s .lens))) (s .c)) _ (s .c .rows) Accepted (omega arith)
+    (c .before .before .before .loop .inv .1) (sym (c .before .reachable-at .ensures) ∙ not-true _ (c .if1 .taken))
 
 add-k : tie.Need-add-k Inv-loop μ-loop
 add-k c = omega arith
@@ -40,10 +43,16 @@ loop-less : tie.Need-loop-less Inv-loop μ-loop
 loop-less c = omega arith
 
 loop-again : tie.Need-loop-again Inv-loop μ-loop
-loop-again c = let s = c .before .before .before .before .before .before .before .before .args in (omega arith, below-more (λ (r : ℕ). (reachableAt (bare (now (s .views)) (now (s .bytes)) (now (s .starts)) (now (s .lens))) (s .c)) r ≡ true) _ (c .before .before .before .loop .inv .1) (sym (c .before .reachable-at .ensures) ∙ not-false _ (c .if1 .left)))
+loop-again c = let s = c .before .before .before .before .before .before .before .before .args in (
+  omega arith,
+  below-more (λ (r : ℕ). (reachableAt (bare (now (s .views)) (now (s .bytes)) (now (s .starts)) (now (s .lens))) (s .c)) r ≡ true) _
+      (c .before .before .before .loop .inv .1) (sym (c .before .reachable-at .ensures) ∙ not-false _ (c .if1 .left)),
+)
 
 returns-2 : tie.Need-returns-2 Inv-loop μ-loop
-returns-2 c = let s = c .before .before .before .before .before .before .args in lowest-none (reachableAt (bare (now (s .views)) (now (s .bytes)) (now (s .starts)) (now (s .lens))) (s .c)) (s .c .rows) Accepted (λ r h. c .before .loop .inv .1 r (omega arith))
+returns-2 c = let s = c .before .before .before .before .before .before .args in
+    lowest-none (reachableAt (bare (now (s .views)) (now (s .bytes)) (now (s .starts)) (now (s .lens))) (s .c)) (s .c .rows) Accepted
+    (λ r h. c .before .loop .inv .1 r (omega arith))
 
 pub judge-rows-spec : {M : Type 1} → statement M
 judge-rows-spec =

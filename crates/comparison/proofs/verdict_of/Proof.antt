@@ -43,10 +43,12 @@ number-requires-2 : tie.Need-number-requires-2
 number-requires-2 c κs = search needs
 
 returns-4 : tie.Need-returns-4
-returns-4 c = left-lower _ _ _ _ _ _ (c .before .before .before .before .before .before .before .w .given .1) (c .before .before .before .before .v2 .given .1) (c .before .before .number .ensures) (c .before .number2 .ensures) (c .if1 .taken)
+returns-4 c = left-lower _ _ _ _ _ _ (c .before .before .before .before .before .before .before .w .given .1)
+    (c .before .before .before .before .v2 .given .1) (c .before .before .number .ensures) (c .before .number2 .ensures) (c .if1 .taken)
 
 returns-5 : tie.Need-returns-5
-returns-5 c = right-lower _ _ _ _ _ _ (c .before .before .before .before .before .before .before .w .given .1) (c .before .before .before .before .v2 .given .1) (c .before .before .number .ensures) (c .before .number2 .ensures) (c .if1 .left)
+returns-5 c = right-lower _ _ _ _ _ _ (c .before .before .before .before .before .before .before .w .given .1)
+    (c .before .before .before .before .v2 .given .1) (c .before .before .number .ensures) (c .before .number2 .ensures) (c .if1 .left)
 
 pub verdict-of-spec : {M : Type 1} → statement M
 verdict-of-spec =

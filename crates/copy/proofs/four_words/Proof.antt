@@ -46,9 +46,17 @@ same-length c = search needs
 
 returns : tie.Need-returns
 returns c =
-    let s = c .before .before .before .before .before .before .before .before .before .before .before .before .before .before .before .before .before .before .before .before .before .before .args in
-    cc (four-words (now (s .src)) (now (s .dst)) (λ j. c .before .before .before .before .before .before .before .before .before .before .before .before .before .before .before .before .before .before .before .before .before .shared-slice-known .given j .fits) (omega arith) _ _ _ _ (omega arith) (omega arith)
-    (c .before .before .before .before .before .before .before .before .before .before .before .before .before .before .before .before .before .before .before .le64 .ensures) (c .before .before .before .before .before .before .before .before .before .before .before .before .before .before .before .before .before .before .le642 .ensures) (c .before .before .before .before .before .before .before .before .before .before .before .before .before .before .before .before .before .le643 .ensures) (c .before .before .before .before .before .before .before .before .before .before .before .before .before .before .before .before .le644 .ensures))
+    let s = c .before .before .before .before .before .before .before .before .before .before .before .before .before .before .before .before .before
+    .before .before .before .before .before .args in
+    cc (four-words (now (s .src)) (now (s .dst))
+    (λ j. c .before .before .before .before .before .before .before .before .before .before .before .before .before .before .before .before
+    .before .before .before .before .before .shared-slice-known .given j .fits) (omega arith) _ _ _ _ (omega arith) (omega arith)
+    (c .before .before .before .before .before .before .before .before .before .before .before .before .before .before .before .before .before .before
+    .before .le64 .ensures) (c .before .before .before .before .before .before .before .before .before .before .before .before .before .before
+    .before .before .before .before .le642 .ensures)
+    (c .before .before .before .before .before .before .before .before .before .before .before .before .before .before .before .before .before
+    .le643 .ensures) (c .before .before .before .before .before .before .before .before .before .before .before .before .before .before .before
+    .before .le644 .ensures))
 
 pub four-words-spec : {M : Type 1} → statement M
 four-words-spec =

@@ -48,8 +48,10 @@ same-length c = search needs
 
 returns : tie.Need-returns
 returns c =
-    let s = c .before .before .before .before .before .before .before .before .before .before .before .before .args in
-    overlap (now (s .dst)) (now (s .src)) _ _ 32 (length (now (s .src)) - 32) (omega arith) (omega arith) (c .before .before .before .before .before .before .before .four-words .ensures) (c .before .before .four-words2 .ensures)
+    let b12 = c .before .before .before .before .before .before .before .before .before .before .before .before in
+    let s = b12 .args in
+    overlap (now (s .dst)) (now (s .src)) _ _ 32 (length (now (s .src)) - 32) (omega arith) (omega arith)
+    (c .before .before .before .before .before .before .before .four-words .ensures) (c .before .before .four-words2 .ensures)
 
 pub two-halves-spec : {M : Type 1} → statement M
 two-halves-spec =

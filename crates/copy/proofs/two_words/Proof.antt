@@ -29,7 +29,10 @@ same-length c = search needs
 returns : tie.Need-returns
 returns c =
     let s = c .before .before .before .before .before .before .before .before .before .before .before .before .args in
-    cc (two-words (now (s .src)) (now (s .dst)) (λ j. c .before .before .before .before .before .before .before .before .before .before .before .shared-slice-known .given j .fits) (omega arith) _ _ (omega arith) (omega arith) (c .before .before .before .before .before .before .before .before .before .le64 .ensures) (c .before .before .before .before .before .before .before .before .le642 .ensures))
+    cc (two-words (now (s .src)) (now (s .dst))
+    (λ j. c .before .before .before .before .before .before .before .before .before .before .before .shared-slice-known .given j .fits)
+    (omega arith) _ _ (omega arith) (omega arith) (c .before .before .before .before .before .before .before .before .before .le64 .ensures)
+    (c .before .before .before .before .before .before .before .before .le642 .ensures))
 
 pub two-words-spec : {M : Type 1} → statement M
 two-words-spec =

@@ -24,10 +24,12 @@ element-copy-out-map : tie.Need-element-copy-out-map
 element-copy-out-map c = search needs
 
 returns : tie.Need-returns
-returns c = column-is (now (c .before .before .before .before .before .before .args .l)) _ _ _ _ _ refl refl refl refl refl _ (ap kindOf (eq-eqb _ 0 (c .if1 .taken)))
+returns c = column-is (now (c .before .before .before .before .before .before .args .l)) _ _ _ _ _ refl refl refl refl refl _
+    (ap kindOf (eq-eqb _ 0 (c .if1 .taken)))
 
 returns-2 : tie.Need-returns-2
-returns-2 c = column-is (now (c .before .before .before .before .before .before .args .l)) _ _ _ _ _ refl refl refl refl refl _ (ap kindOf (ne-eqb _ 0 (c .if1 .left)))
+returns-2 c = column-is (now (c .before .before .before .before .before .before .args .l)) _ _ _ _ _ refl refl refl refl refl _
+    (ap kindOf (ne-eqb _ 0 (c .if1 .left)))
 
 pub column-of-spec : {M : Type 1} → statement M
 column-of-spec =

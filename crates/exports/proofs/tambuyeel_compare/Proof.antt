@@ -18,7 +18,8 @@ compared-number-requires : tie.Need-compared-number-requires
 compared-number-requires c κs = search needs
 
 returns : tie.Need-returns
-returns c = c .compared-number .ensures ∙ ap comparedNumber (rw (c .before .before .before .column-of .ensures, c .before .before .column-of2 .ensures) at (c .before .compare .ensures))
+returns c = c .compared-number .ensures
+    ∙ ap comparedNumber (rw (c .before .before .before .column-of .ensures, c .before .before .column-of2 .ensures) at (c .before .compare .ensures))
 
 pub tambuyeel-compare-spec : {M : Type 1} → statement M
 tambuyeel-compare-spec =

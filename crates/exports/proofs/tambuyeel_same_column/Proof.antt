@@ -18,7 +18,8 @@ told-same-requires : tie.Need-told-same-requires
 told-same-requires c κs = search needs
 
 returns : tie.Need-returns
-returns c = c .told-same .ensures ∙ ap sameTold (rw (c .before .before .before .column-of .ensures, c .before .before .column-of2 .ensures) at (c .before .same-column .ensures))
+returns c = c .told-same .ensures ∙ ap sameTold (rw (c .before .before .before .column-of .ensures, c .before .before .column-of2 .ensures) at
+    (c .before .same-column .ensures))
 
 pub tambuyeel-same-column-spec : {M : Type 1} → statement M
 tambuyeel-same-column-spec =

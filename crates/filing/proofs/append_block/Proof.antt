@@ -1,4 +1,5 @@
--- `filing::append_block` meets its contract: a walk of its MIR, by hand. The work is done by the count of the records, and the two records that it answers are written. Assumes nothing.
+-- `filing::append_block` meets its contract: a walk of its MIR, by hand. The work is done by the count of the records, and the two records that it
+-- answers are written. Assumes nothing.
 use mathlib.Core.Path.{refl, _≡_, sym, ap, subst, _∙_}
 use Prim.Native.Nat.{ℕ}
 use mathlib.Core.List.{[], _∷_, List}
@@ -69,7 +70,26 @@ use Rattle.filing.proofs.append_block.Statement as stated
 use Rattle.filing.proofs.append_block.Code as code
 
 abbrev stayed : Stays (F.ended .signature .params) (F.ended .kept)
-stayed = (stay-none (λ _. S.the-row) yes, (stay-none-slice (0 ∷ []) tt (plain (λ _. u8)) yes, (gave-slice (1 ∷ []) tt (plain (λ _. u8)), (gave-slice (2 ∷ []) tt (plain (λ _. T.the-row)), (stay-none-slice (3 ∷ []) tt (plain (λ _. u8)) yes, (stay-none-slice (4 ∷ []) tt (plain (λ _. u32)) yes, (stay-none-slice (5 ∷ []) tt (plain (λ _. u8)) yes, tt)))))))
+stayed = (
+  stay-none (λ _. S.the-row) yes,
+  (
+    stay-none-slice (0 ∷ []) tt (plain (λ _. u8)) yes,
+    (
+      gave-slice (1 ∷ []) tt (plain (λ _. u8)),
+      (
+        gave-slice (2 ∷ []) tt (plain (λ _. T.the-row)),
+        (
+          stay-none-slice (3 ∷ []) tt (plain (λ _. u8)) yes,
+          (
+            stay-none-slice (4 ∷ []) tt
+                (plain (λ _. u32)) yes,
+            (stay-none-slice (5 ∷ []) tt (plain (λ _. u8)) yes, tt),
+          ),
+        ),
+      ),
+    ),
+  ),
+)
 
 -- a call that asks nothing but what it is handed
 asks : {M : Type 1} (𝓤 : URA M) (P : SProp 𝓤) → ent 𝓤 P (sep 𝓤 P (emp 𝓤))
@@ -83,20 +103,37 @@ module _ {M : Type 1} (𝓤 : URA M) (H : Heap 𝓤) (A : Atoms 𝓤) (mem : Mem
   abbrev Cputor : Contract 𝓤
   Cputor = tripleOf 𝓤 H A Cputorm.signature (Cputorm.spec 𝓤 H A mem run)
 
-module _ {M : Type 1} (𝓤 : URA M) (H : Heap 𝓤) (A : Atoms 𝓤) (W : Given 𝓤 H A) (mem : Memory → SProp 𝓤) (run : Routine → Fun 𝓤) (κ0 κ1 κ2 κ3 κ4 κ5 : Lft) (q0 q1 q2 q3 q4 q5 : Share)
+module _ {M : Type 1} (𝓤 : URA M) (H : Heap 𝓤) (A : Atoms 𝓤) (W : Given 𝓤 H A) (mem : Memory → SProp 𝓤) (run : Routine → Fun 𝓤)
+    (κ0 κ1 κ2 κ3 κ4 κ5 : Lft) (q0 q1 q2 q3 q4 q5 : Share)
     (s : State) (views : RefT (List ℕ)) (bytes : RefT (List ℕ)) (table : RefT (List Block)) (nulls : RefT (List ℕ)) (places : RefT (List ℕ)) (x : RefT (List ℕ))
-    (g-s : Is S.the-row s (LL.vals S.the-type S′.the-laws s)) (g-views : Room u8 (length (now views))) (g-bytes : Room u8 (length (now bytes))) (g-table : Room T.the-row (length (now table))) (g-nulls : Room u8 (length (now nulls))) (g-places : Room u32 (length (now places))) (g-x : Room u8 (length (now x))) where
+    (g-s : Is S.the-row s (LL.vals S.the-type S′.the-laws s)) (g-views : Room u8 (length (now views))) (g-bytes : Room u8 (length (now bytes)))
+    (g-table : Room T.the-row (length (now table))) (g-nulls : Room u8 (length (now nulls))) (g-places : Room u32 (length (now places)))
+    (g-x : Room u8 (length (now x))) where
   abbrev a : State × (RefT (List ℕ) × (RefT (List ℕ) × (RefT (List Block) × (RefT (List ℕ) × (RefT (List ℕ) × (RefT (List ℕ) × Unit {0}))))))
   a = (s, (views, (bytes, (table, (nulls, (places, (x, tt)))))))
 
   abbrev at : Vals F.signature (κ0, (κ1, (κ2, (κ3, (κ4, (κ5, tt))))))
-  at = (LL.vals S.the-type S′.the-laws s, (slice-vals views, (slice-vals bytes, (slice-vals table, (slice-vals nulls, (slice-vals places, (slice-vals x, tt)))))))
+  at = (
+    LL.vals S.the-type S′.the-laws s,
+    (slice-vals views, (slice-vals bytes, (slice-vals table, (slice-vals nulls, (slice-vals places, (slice-vals x, tt)))))),
+  )
 
   abbrev passed : List Val
-  passed = LL.val S.the-type S′.the-laws s ∷ sliceVal (views .ptr) (length (now views)) ∷ sliceVal (bytes .ptr) (length (now bytes)) ∷ sliceVal (table .ptr) (length (now table)) ∷ sliceVal (nulls .ptr) (length (now nulls)) ∷ sliceVal (places .ptr) (length (now places)) ∷ sliceVal (x .ptr) (length (now x)) ∷ []
+  passed = LL.val S.the-type S′.the-laws s ∷ sliceVal (views .ptr) (length (now views)) ∷ sliceVal (bytes .ptr) (length (now bytes)) ∷ sliceVal
+      (table .ptr) (length (now table)) ∷ sliceVal (nulls .ptr) (length (now nulls)) ∷ sliceVal (places .ptr) (length (now places)) ∷ sliceVal
+      (x .ptr) (length (now x)) ∷ []
 
   abbrev Post : Val → SProp 𝓤
-  Post = walkOf 𝓤 H A F.ended stayed (F.clauses 𝓤 H A mem run) .post (((κ0, (κ1, (κ2, (κ3, (κ4, (κ5, tt)))))), (q0, (q1, (q2, (q3, (q4, (q5, tt)))))), tt, a, at), tt)
+  Post = walkOf 𝓤 H A F.ended stayed (F.clauses 𝓤 H A mem run) .post (
+    (
+      (κ0, (κ1, (κ2, (κ3, (κ4, (κ5, tt)))))),
+      (q0, (q1, (q2, (q3, (q4, (q5, tt)))))),
+      tt,
+      a,
+      at,
+    ),
+    tt,
+  )
 
   abbrev Own-views : Fml
   Own-views = ShrSlice (named 0) κ0 u8 .own views (slice-vals views)
@@ -120,33 +157,76 @@ module _ {M : Type 1} (𝓤 : URA M) (H : Heap 𝓤) (A : Atoms 𝓤) (W : Given
   a1 = (s, (views, (bytes, ((length (now table)), (nulls, (places, (x, tt)))))))
 
   abbrev to1 : Cblockwith 𝓤 H A mem run .Ghost
-  to1 = (((κ0, (κ1, (κ3, (κ4, (κ5, tt))))), (q0, (q1, (q3, (q4, (q5, tt))))), tt, a1, (LL.vals S.the-type S′.the-laws s, (slice-vals views, (slice-vals bytes, (vint w64 (length (now table)) ∷ [], (slice-vals nulls, (slice-vals places, (slice-vals x, tt)))))))), tt)
+  to1 = (
+    (
+      (κ0, (κ1, (κ3, (κ4, (κ5, tt))))),
+      (q0, (q1, (q3, (q4, (q5, tt))))),
+      tt,
+      a1,
+      (
+        LL.vals S.the-type S′.the-laws s,
+        (slice-vals views, (slice-vals bytes, (vint w64 (length (now table)) ∷ [], (slice-vals nulls, (slice-vals places, (slice-vals x, tt)))))),
+      ),
+    ),
+    tt,
+  )
 
   abbrev Said1 : (r1 : Laid) (zs1 : Unit {0} × (Unit {0} × (List ℕ × (Unit {0} × (Unit {0} × (Unit {0} × (Unit {0} × Unit {0}))))))) → Type 0
-  Said1 r1 zs1 = ((t : List Block) → (length (now table)) ≡ length t → Files (λ b. whyBlock b (now x)) (putBlock (now x)) s (now views) (now bytes) t (now nulls) (now places) (r1 .placed .answer) (now views) (zs1 .1 .1 .0) (set (set t (r1 .at) (r1 .block)) (r1 .next) (r1 .whole)) (now nulls) (now places) × (r1 .placed .block ≡ blockNumber (filed s (now views) (now bytes) t (now nulls) (now places)) (now x)))
+  Said1 r1 zs1 = ((t : List Block) → (length (now table)) ≡ length t → Files (λ b. whyBlock b (now x)) (putBlock (now x)) s (now views) (now bytes) t
+      (now nulls) (now places) (r1 .placed .answer) (now views) (zs1 .1 .1 .0) (set (set t (r1 .at) (r1 .block)) (r1 .next) (r1 .whole)) (now nulls)
+      (now places) × (r1 .placed .block ≡ blockNumber (filed s (now views) (now bytes) t (now nulls) (now places)) (now x)))
 
-  abbrev a2 : (r1 : Laid) (u1 : Val) (zs1 : Unit {0} × (Unit {0} × (List ℕ × (Unit {0} × (Unit {0} × (Unit {0} × (Unit {0} × Unit {0}))))))) (α1 : ℕ) (γ1 : GName) → RefT (List Block) × (ℕ × (Block × Unit {0}))
+  abbrev a2 : (r1 : Laid) (u1 : Val) (zs1 : Unit {0} × (Unit {0} × (List ℕ × (Unit {0} × (Unit {0} × (Unit {0} × (Unit {0} × Unit {0}))))))) (α1 : ℕ)
+      (γ1 : GName) → RefT (List Block) × (ℕ × (Block × Unit {0}))
   a2 r1 u1 zs1 α1 γ1 = ((record { ptr = ((table .ptr .0), (table .ptr .1)); name = γ1; now = (now table) }), ((r1 .at), ((r1 .block), tt)))
 
-  abbrev to2 : (r1 : Laid) (u1 : Val) (zs1 : Unit {0} × (Unit {0} × (List ℕ × (Unit {0} × (Unit {0} × (Unit {0} × (Unit {0} × Unit {0}))))))) (α1 : ℕ) (γ1 : GName) → Cputor 𝓤 H A mem run .Ghost
-  to2 r1 u1 zs1 α1 γ1 = ((((α1 ∷ []), tt), (fullShare, tt), tt, a2 r1 u1 zs1 α1 γ1, (slice-vals table, (vint w64 (r1 .at) ∷ [], (LL.vals T.the-type T′.the-laws (r1 .block), tt)))), tt)
+  abbrev to2 : (r1 : Laid) (u1 : Val) (zs1 : Unit {0} × (Unit {0} × (List ℕ × (Unit {0} × (Unit {0} × (Unit {0} × (Unit {0} × Unit {0}))))))) (α1 : ℕ)
+      (γ1 : GName) → Cputor 𝓤 H A mem run .Ghost
+  to2 r1 u1 zs1 α1 γ1 = (
+    (
+      ((α1 ∷ []), tt),
+      (fullShare, tt),
+      tt,
+      a2 r1 u1 zs1 α1 γ1,
+      (slice-vals table, (vint w64 (r1 .at) ∷ [], (LL.vals T.the-type T′.the-laws (r1 .block), tt))),
+    ),
+    tt,
+  )
 
-  abbrev Said2 : (r1 : Laid) (u1 : Val) (zs1 : Unit {0} × (Unit {0} × (List ℕ × (Unit {0} × (Unit {0} × (Unit {0} × (Unit {0} × Unit {0}))))))) (α1 : ℕ) (γ1 : GName) (r2 : Unit {0}) (zs2 : List Block × (Unit {0} × (Unit {0} × Unit {0}))) → Type 0
+  abbrev Said2 : (r1 : Laid) (u1 : Val) (zs1 : Unit {0} × (Unit {0} × (List ℕ × (Unit {0} × (Unit {0} × (Unit {0} × (Unit {0} × Unit {0})))))))
+      (α1 : ℕ) (γ1 : GName) (r2 : Unit {0}) (zs2 : List Block × (Unit {0} × (Unit {0} × Unit {0}))) → Type 0
   Said2 r1 u1 zs1 α1 γ1 r2 zs2 = (zs2 .0) ≡ set (now table) (r1 .at) (r1 .block)
 
-  abbrev a3 : (r1 : Laid) (u1 : Val) (zs1 : Unit {0} × (Unit {0} × (List ℕ × (Unit {0} × (Unit {0} × (Unit {0} × (Unit {0} × Unit {0}))))))) (α1 : ℕ) (γ1 : GName) (r2 : Unit {0}) (u2 : Val) (zs2 : List Block × (Unit {0} × (Unit {0} × Unit {0}))) → RefT (List Block) × (ℕ × (Block × Unit {0}))
+  abbrev a3 : (r1 : Laid) (u1 : Val) (zs1 : Unit {0} × (Unit {0} × (List ℕ × (Unit {0} × (Unit {0} × (Unit {0} × (Unit {0} × Unit {0}))))))) (α1 : ℕ)
+      (γ1 : GName) (r2 : Unit {0}) (u2 : Val) (zs2 : List Block × (Unit {0} × (Unit {0} × Unit {0}))) → RefT (List Block) × (ℕ × (Block × Unit {0}))
   a3 r1 u1 zs1 α1 γ1 r2 u2 zs2 = ((record { ptr = table .ptr; name = table .name; now = (zs2 .0) }), ((r1 .next), ((r1 .whole), tt)))
 
-  abbrev to3 : (r1 : Laid) (u1 : Val) (zs1 : Unit {0} × (Unit {0} × (List ℕ × (Unit {0} × (Unit {0} × (Unit {0} × (Unit {0} × Unit {0}))))))) (α1 : ℕ) (γ1 : GName) (r2 : Unit {0}) (u2 : Val) (zs2 : List Block × (Unit {0} × (Unit {0} × Unit {0}))) → Cputor 𝓤 H A mem run .Ghost
-  to3 r1 u1 zs1 α1 γ1 r2 u2 zs2 = (((κ2, tt), (q2, tt), tt, a3 r1 u1 zs1 α1 γ1 r2 u2 zs2, (slice-vals table, (vint w64 (r1 .next) ∷ [], (LL.vals T.the-type T′.the-laws (r1 .whole), tt)))), tt)
+  abbrev to3 : (r1 : Laid) (u1 : Val) (zs1 : Unit {0} × (Unit {0} × (List ℕ × (Unit {0} × (Unit {0} × (Unit {0} × (Unit {0} × Unit {0}))))))) (α1 : ℕ)
+      (γ1 : GName) (r2 : Unit {0}) (u2 : Val) (zs2 : List Block × (Unit {0} × (Unit {0} × Unit {0}))) → Cputor 𝓤 H A mem run .Ghost
+  to3 r1 u1 zs1 α1 γ1 r2 u2 zs2 = (
+    (
+      (κ2, tt),
+      (q2, tt),
+      tt,
+      a3 r1 u1 zs1 α1 γ1 r2 u2 zs2,
+      (slice-vals table, (vint w64 (r1 .next) ∷ [], (LL.vals T.the-type T′.the-laws (r1 .whole), tt))),
+    ),
+    tt,
+  )
 
-  abbrev Said3 : (r1 : Laid) (u1 : Val) (zs1 : Unit {0} × (Unit {0} × (List ℕ × (Unit {0} × (Unit {0} × (Unit {0} × (Unit {0} × Unit {0}))))))) (α1 : ℕ) (γ1 : GName) (r2 : Unit {0}) (u2 : Val) (zs2 : List Block × (Unit {0} × (Unit {0} × Unit {0}))) (r3 : Unit {0}) (zs3 : List Block × (Unit {0} × (Unit {0} × Unit {0}))) → Type 0
+  abbrev Said3 : (r1 : Laid) (u1 : Val) (zs1 : Unit {0} × (Unit {0} × (List ℕ × (Unit {0} × (Unit {0} × (Unit {0} × (Unit {0} × Unit {0})))))))
+      (α1 : ℕ) (γ1 : GName) (r2 : Unit {0}) (u2 : Val) (zs2 : List Block × (Unit {0} × (Unit {0} × Unit {0}))) (r3 : Unit {0}) (zs3 : List Block
+      × (Unit {0} × (Unit {0} × Unit {0}))) → Type 0
   Said3 r1 u1 zs1 α1 γ1 r2 u2 zs2 r3 zs3 = (zs3 .0) ≡ set (zs2 .0) (r1 .next) (r1 .whole)
 
-  module _ (C : Calls 𝓤 H) (Λ : Loops 𝓤 H) (fm : FmC 𝓤 H (W .laws) C) (known1 : Triple 𝓤 (C #Cblockwith) (Cblockwith 𝓤 H A mem run)) (known2 : Triple 𝓤 (C #Cputor) (Cputor 𝓤 H A mem run)) where
-    walk : ent 𝓤 (onEntry 𝓤 H A F.signature (κ0, (κ1, (κ2, (κ3, (κ4, (κ5, tt)))))) (q0, (q1, (q2, (q3, (q4, (q5, tt)))))) a at) (WpFn 𝓤 H C Λ code.function passed Post)
+  module _ (C : Calls 𝓤 H) (Λ : Loops 𝓤 H) (fm : FmC 𝓤 H (W .laws) C) (known1 : Triple 𝓤 (C #Cblockwith) (Cblockwith 𝓤 H A mem run))
+      (known2 : Triple 𝓤 (C #Cputor) (Cputor 𝓤 H A mem run)) where
+    walk : ent 𝓤 (onEntry 𝓤 H A F.signature (κ0, (κ1, (κ2, (κ3, (κ4, (κ5, tt)))))) (q0, (q1, (q2, (q3, (q4, (q5, tt)))))) a at)
+        (WpFn 𝓤 H C Λ code.function passed Post)
     walk =
-        qed W ((‵ (flft κ0 q0) ⊛ ‵ (flft κ1 q1) ⊛ ‵ (flft κ2 q2) ⊛ ‵ (flft κ3 q3) ⊛ ‵ (flft κ4 q4) ⊛ ‵ (flft κ5 q5) ⊛ ‵ ftrue) ∷ ‵ (owns (S.the-row ∷ ShrSlice (named 0) κ0 u8 ∷ MutSlice (named 1) κ1 u8 ∷ MutSlice (named 2) κ2 T.the-row ∷ ShrSlice (named 3) κ3 u8 ∷ ShrSlice (named 4) κ4 u32 ∷ ShrSlice (named 5) κ5 u8 ∷ []) a at) ∷ []) ∵
+        qed W ((‵ (flft κ0 q0) ⊛ ‵ (flft κ1 q1) ⊛ ‵ (flft κ2 q2) ⊛ ‵ (flft κ3 q3) ⊛ ‵ (flft κ4 q4) ⊛ ‵ (flft κ5 q5) ⊛ ‵ ftrue) ∷ ‵
+        (owns (S.the-row ∷ ShrSlice (named 0) κ0 u8 ∷ MutSlice (named 1) κ1 u8 ∷ MutSlice (named 2) κ2 T.the-row ∷ ShrSlice (named 3) κ3 u8
+        ∷ ShrSlice (named 4) κ4 u32 ∷ ShrSlice (named 5) κ5 u8 ∷ []) a at) ∷ []) ∵
         split ! $ move ! (1 ∷ []) $ split ! $ move ! (1 ∷ []) $ split ! $ move ! (1 ∷ []) $ split ! $ move ! (1 ∷ []) $ split ! $ move ! (1 ∷ []) $
         split ! $ move ! (1 ∷ []) $ drop ! $ move ! (6 ∷ []) $ fsplit ! $ drop ! $ fsplit ! $ move ! (1 ∷ []) $ fsplit ! $ move ! (1 ∷ []) $
         fsplit ! $ move ! (1 ∷ []) $ fsplit ! $ move ! (1 ∷ []) $ fsplit ! $ move ! (1 ∷ []) $ fsplit ! $ move ! (1 ∷ []) $ drop ! $
@@ -160,9 +240,11 @@ module _ {M : Type 1} (𝓤 : URA M) (H : Heap 𝓤) (A : Atoms 𝓤) (W : Given
         pass1 ! (init ! 22 refl (tt, (tt, (record { fits = g-nulls .0 }, tt)))) $
         pass1 ! (init ! 20 refl (tt, (tt, (record { fits = g-places .0 }, tt)))) $
         pass1 ! (init ! 18 refl (tt, (tt, (record { fits = g-x .0 }, tt)))) $ pass0 ! $
-        assigns ! (of-opd ! (load ! (from ! (fld ! refl (stop !))) (look-in ! 24 (sub ! 1 refl (whole !))))) (from ! (stop !)) (init ! 16 refl (tt, record { fits = (g-table .0) })) $
+        assigns ! (of-opd ! (load ! (from ! (fld ! refl (stop !))) (look-in ! 24 (sub ! 1 refl (whole !))))) (from ! (stop !))
+        (init ! 16 refl (tt, record { fits = (g-table .0) })) $
         assigns ! (addr ! (from ! (fld ! refl (hop ! (look-in ! 26 (sub ! 0 refl (whole !))) (stop !))))) (from ! (stop !)) (init ! 12 refl (tt, tt)) $
-        assigns ! (agg ! (and-then ! (load ! (from ! (stop !)) (look ! 12 refl)) (and-then ! (load ! (from ! (fld ! refl (stop !))) (look-in ! 26 (sub ! 1 refl (whole !)))) (no-more !)))) (from ! (stop !)) (init ! 10 refl (tt, (tt, (record { fits = g-bytes .0 }, tt)))) $
+        assigns ! (agg ! (and-then ! (load ! (from ! (stop !)) (look ! 12 refl)) (and-then ! (load ! (from ! (fld ! refl (stop !)))
+        (look-in ! 26 (sub ! 1 refl (whole !)))) (no-more !)))) (from ! (stop !)) (init ! 10 refl (tt, (tt, (record { fits = g-bytes .0 }, tt)))) $
         nothing ! $ move ! (35 ∷ []) $ use1 W (‵ Own-x ⊛ ‵ Own-x) (shr-slice-copy 𝓤 H A W (named 5) κ5 u8 .twice x (slice-vals x)) $ split ! $
         move ! (0 ∷ 2 ∷ []) $ fjoin ! $ move ! (36 ∷ []) $
         use1 W (‵ Own-places ⊛ ‵ Own-places) (shr-slice-copy 𝓤 H A W (named 4) κ4 u32 .twice places (slice-vals places)) $ split ! $
@@ -173,11 +255,21 @@ module _ {M : Type 1} (𝓤 : URA M) (H : Heap 𝓤) (A : Atoms 𝓤) (W : Given
         split ! $ move ! (0 ∷ 2 ∷ []) $ fjoin ! $ owned ! S.the-row (Is S.the-row) (LL.makes S.the-type S′.the-plain 𝓤 H A) s _ g-s $ fjoin ! $
         nothing ! $ move ! (41 ∷ 0 ∷ []) $ join ! $ move ! (41 ∷ 0 ∷ []) $ join ! $ move ! (41 ∷ 0 ∷ []) $ join ! $ move ! (42 ∷ 0 ∷ []) $ join ! $
         move ! (42 ∷ 0 ∷ []) $ join ! $ join ! $
-        use1 W (raw (Cblockwith 𝓤 H A mem run .pre to1)) (asks 𝓤 (onEntry 𝓤 H A Cblockwithm.signature (κ0, (κ1, (κ3, (κ4, (κ5, tt))))) (q0, (q1, (q3, (q4, (q5, tt))))) a1 (LL.vals S.the-type S′.the-laws s, (slice-vals views, (slice-vals bytes, (vint w64 (length (now table)) ∷ [], (slice-vals nulls, (slice-vals places, (slice-vals x, tt))))))))) $
-        calls-at ! fm (Cblockwith 𝓤 H A mem run) known1 to1 (and-then ! (load ! (from ! (stop !)) (look ! 35 refl)) (and-then ! (load ! (from ! (stop !)) (look ! 33 refl)) (and-then ! (load ! (from ! (stop !)) (look ! 15 refl)) (and-then ! (load ! (from ! (stop !)) (look ! 21 refl)) (and-then ! (load ! (from ! (stop !)) (look ! 27 refl)) (and-then ! (load ! (from ! (stop !)) (look ! 25 refl)) (and-then ! (load ! (from ! (stop !)) (look ! 23 refl)) (no-more !)))))))) (λ u1.
-        use1 W (later (some (λ (r1 : Laid). ((‵ (flft κ0 q0) ⊛ ‵ (flft κ1 q1) ⊛ ‵ (flft κ3 q3) ⊛ ‵ (flft κ4 q4) ⊛ ‵ (flft κ5 q5) ⊛ ‵ ftrue) ⊛ ‵ (B.the-row .own r1 (u1 ∷ []))) ⊛ raw (ensured 𝓤 H A Cblockwithm.ended (Cblockwithm.clauses 𝓤 H A mem run) (κ0, (κ1, (κ3, (κ4, (κ5, tt))))) a1 tt r1)))) (id⊢ 𝓤 _) $
+        use1 W (raw (Cblockwith 𝓤 H A mem run .pre to1)) (asks 𝓤 (onEntry 𝓤 H A Cblockwithm.signature (κ0, (κ1, (κ3, (κ4, (κ5, tt)))))
+        (q0, (q1, (q3, (q4, (q5, tt))))) a1 (
+          LL.vals S.the-type S′.the-laws s,
+          (slice-vals views, (slice-vals bytes, (vint w64 (length (now table)) ∷ [], (slice-vals nulls, (slice-vals places, (slice-vals x, tt)))))),
+        ))) $
+        calls-at ! fm (Cblockwith 𝓤 H A mem run) known1 to1 (and-then ! (load ! (from ! (stop !)) (look ! 35 refl))
+        (and-then ! (load ! (from ! (stop !)) (look ! 33 refl)) (and-then ! (load ! (from ! (stop !)) (look ! 15 refl))
+        (and-then ! (load ! (from ! (stop !)) (look ! 21 refl)) (and-then ! (load ! (from ! (stop !)) (look ! 27 refl))
+        (and-then ! (load ! (from ! (stop !)) (look ! 25 refl)) (and-then ! (load ! (from ! (stop !)) (look ! 23 refl)) (no-more !)))))))) (λ u1.
+        use1 W (later (some (λ (r1 : Laid). ((‵ (flft κ0 q0) ⊛ ‵ (flft κ1 q1) ⊛ ‵ (flft κ3 q3) ⊛ ‵ (flft κ4 q4) ⊛ ‵ (flft κ5 q5) ⊛ ‵ ftrue) ⊛ ‵
+        (B.the-row .own r1 (u1 ∷ []))) ⊛ raw (ensured 𝓤 H A Cblockwithm.ended (Cblockwithm.clauses 𝓤 H A mem run) (κ0, (κ1, (κ3, (κ4, (κ5, tt)))))
+        a1 tt r1)))) (id⊢ 𝓤 _) $
         await ! tt $ pick ! (λ r1. split ! $ move ! (1 ∷ []) $
-        use1 W (some (λ (zs1 : Unit {0} × (Unit {0} × (List ℕ × (Unit {0} × (Unit {0} × (Unit {0} × (Unit {0} × Unit {0}))))))). ‵ (lasts Cblockwithm.ended (κ0, (κ1, (κ3, (κ4, (κ5, tt))))) a1 zs1) ⊛ raw (fact 𝓤 (Said1 r1 zs1)))) (id⊢ 𝓤 _) $
+        use1 W (some (λ (zs1 : Unit {0} × (Unit {0} × (List ℕ × (Unit {0} × (Unit {0} × (Unit {0} × (Unit {0} × Unit {0}))))))). ‵
+        (lasts Cblockwithm.ended (κ0, (κ1, (κ3, (κ4, (κ5, tt))))) a1 zs1) ⊛ raw (fact 𝓤 (Said1 r1 zs1)))) (id⊢ 𝓤 _) $
         pick ! (λ zs1. split ! $ move ! (1 ∷ []) $ heard ! (Said1 r1 zs1) (λ e1. fsplit ! $ drop ! $ fsplit ! $ drop ! $ fsplit ! $ fsplit ! $
         move ! (1 ∷ []) $ feqL ! (λ le1-bytes. move ! (1 ∷ []) $ fsplit ! $ drop ! $ fsplit ! $ drop ! $ fsplit ! $ drop ! $ fsplit ! $ drop ! $
         drop ! $ move ! (1 ∷ []) $ split ! $ move ! (1 ∷ []) $ peeks ! B.the-row (Is B.the-row) (shows 𝓤 H A B.the-row) r1 (u1 ∷ []) (λ gr1.
@@ -186,47 +278,70 @@ module _ {M : Type 1} (𝓤 : URA M) (H : Heap 𝓤) (A : Atoms 𝓤) (W : Given
         let fs1 = LL.owed B.the-type B′.the-laws r1 _ gr1 in drop ! $ split ! $ move ! (1 ∷ []) $ split ! $ move ! (1 ∷ []) $ split ! $
         move ! (1 ∷ []) $ split ! $ move ! (1 ∷ []) $ split ! $ move ! (1 ∷ []) $ drop ! $
         assigns ! (addr ! (from ! (fld ! refl (hop ! (look-in ! 34 (sub ! 0 refl (whole !))) (stop !))))) (from ! (stop !)) (init ! 16 refl (tt, tt)) $
-        assigns ! (agg ! (and-then ! (load ! (from ! (stop !)) (look ! 16 refl)) (and-then ! (load ! (from ! (fld ! refl (stop !))) (look-in ! 34 (sub ! 1 refl (whole !)))) (no-more !)))) (from ! (stop !)) (init ! 14 refl (tt, (tt, (record { fits = g-table .0 }, tt)))) $
+        assigns ! (agg ! (and-then ! (load ! (from ! (stop !)) (look ! 16 refl)) (and-then ! (load ! (from ! (fld ! refl (stop !)))
+        (look-in ! 34 (sub ! 1 refl (whole !)))) (no-more !)))) (from ! (stop !)) (init ! 14 refl (tt, (tt, (record { fits = g-table .0 }, tt)))) $
         move ! (44 ∷ []) $ fsplit ! $ move ! (1 ∷ []) $ fsplit ! $ move ! (0 ∷ 1 ∷ 47 ∷ []) $
         opens-slice ! tt T.the-row (now table) (table .ptr .0) (table .ptr .1) $
-        use1 W (‵ (cells (inMem T.the-row) (now table) (table .ptr .0) (table .ptr .1))) (whole-in 𝓤 H A W T.the-row (now table) (table .ptr .0) (table .ptr .1)) $
+        use1 W (‵ (cells (inMem T.the-row) (now table) (table .ptr .0) (table .ptr .1))) (whole-in 𝓤 H A W T.the-row (now table) (table .ptr .0)
+        (table .ptr .1)) $
         lft-new ! tt (λ α1. move ! (1 ∷ []) $
-        use1 W (later (some (λ (γ : GName). ‵ (MutSlice (named 0) (α1 ∷ []) T.the-row .own (record { ptr = ((table .ptr .0), (table .ptr .1)); name = γ; now = (now table) }) (sliceVal ((table .ptr .0), (table .ptr .1)) (length (now table)) ∷ [])) ⊛ ‵ (flent (α1 ∷ []) (Held T.the-row (length (now table)) (table .ptr .0) (table .ptr .1) γ))))) (lends-slice 𝓤 H A W T.the-row (named 0) (α1 ∷ []) (now table) (table .ptr .0) (table .ptr .1) g-table) $
+        use1 W (later (some (λ (γ : GName). ‵ (MutSlice (named 0) (α1 ∷ []) T.the-row .own (record {
+          ptr = ((table .ptr .0), (table .ptr .1));
+          name =
+              γ;
+          now = (now table);
+        }) (sliceVal ((table .ptr .0), (table .ptr .1)) (length (now table)) ∷ [])) ⊛ ‵
+        (flent (α1 ∷ []) (Held T.the-row (length (now table)) (table .ptr .0) (table .ptr .1) γ))))) (lends-slice 𝓤 H A W T.the-row (named 0)
+        (α1 ∷ []) (now table) (table .ptr .0) (table .ptr .1) g-table) $
         await ! tt $ pick ! (λ γ1. split ! $ nothing ! $
         owned ! T.the-row (Is T.the-row) (LL.makes T.the-type T′.the-plain 𝓤 H A) (r1 .block) _ (fs1 .1 .1 .0) $ fjoin ! $
         owned ! usize (Is usize) (uint-makes 𝓤 H A W w64) (r1 .at) _ (refl, (fs1 .1 .0 .1)) $ fjoin ! $ move ! (1 ∷ 0 ∷ []) $ fjoin ! $ nothing ! $
         move ! (3 ∷ 0 ∷ []) $ join ! $ join ! $
-        use1 W (raw (Cputor 𝓤 H A mem run .pre (to2 r1 u1 zs1 α1 γ1))) (asks 𝓤 (onEntry 𝓤 H A Cputorm.signature ((α1 ∷ []), tt) (fullShare, tt) (a2 r1 u1 zs1 α1 γ1) (slice-vals table, (vint w64 (r1 .at) ∷ [], (LL.vals T.the-type T′.the-laws (r1 .block), tt))))) $
-        calls-at ! fm (Cputor 𝓤 H A mem run) known2 (to2 r1 u1 zs1 α1 γ1) (and-then ! (load ! (from ! (stop !)) (look ! 20 refl)) (and-then ! (load ! (from ! (fld ! refl (stop !))) (look-in ! 30 (sub ! 1 refl (whole !)))) (and-then ! (load ! (from ! (fld ! refl (stop !))) (look-in ! 30 (sub ! 2 refl (whole !)))) (no-more !)))) (λ u2.
-        use1 W (later (some (λ (r2 : Unit {0}). ((‵ (flft (α1 ∷ []) fullShare) ⊛ ‵ ftrue) ⊛ ‵ (Nothing .own r2 (u2 ∷ []))) ⊛ raw (ensured 𝓤 H A Cputorm.ended (Cputorm.clauses 𝓤 H A mem run) ((α1 ∷ []), tt) (a2 r1 u1 zs1 α1 γ1) tt r2)))) (id⊢ 𝓤 _) $
+        use1 W (raw (Cputor 𝓤 H A mem run .pre (to2 r1 u1 zs1 α1 γ1))) (asks 𝓤 (onEntry 𝓤 H A Cputorm.signature ((α1 ∷ []), tt) (fullShare, tt)
+        (a2 r1 u1 zs1 α1 γ1) (slice-vals table, (vint w64 (r1 .at) ∷ [], (LL.vals T.the-type T′.the-laws (r1 .block), tt))))) $
+        calls-at ! fm (Cputor 𝓤 H A mem run) known2 (to2 r1 u1 zs1 α1 γ1) (and-then ! (load ! (from ! (stop !)) (look ! 20 refl))
+        (and-then ! (load ! (from ! (fld ! refl (stop !))) (look-in ! 30 (sub ! 1 refl (whole !))))
+        (and-then ! (load ! (from ! (fld ! refl (stop !))) (look-in ! 30 (sub ! 2 refl (whole !)))) (no-more !)))) (λ u2.
+        use1 W (later (some (λ (r2 : Unit {0}). ((‵ (flft (α1 ∷ []) fullShare) ⊛ ‵ ftrue) ⊛ ‵ (Nothing .own r2 (u2 ∷ []))) ⊛ raw
+        (ensured 𝓤 H A Cputorm.ended (Cputorm.clauses 𝓤 H A mem run) ((α1 ∷ []), tt) (a2 r1 u1 zs1 α1 γ1) tt r2)))) (id⊢ 𝓤 _) $
         await ! tt $ pick ! (λ r2. split ! $ move ! (1 ∷ []) $
-        use1 W (some (λ (zs2 : List Block × (Unit {0} × (Unit {0} × Unit {0}))). ‵ (lasts Cputorm.ended ((α1 ∷ []), tt) (a2 r1 u1 zs1 α1 γ1) zs2) ⊛ raw (fact 𝓤 (Said2 r1 u1 zs1 α1 γ1 r2 zs2)))) (id⊢ 𝓤 _) $
+        use1 W (some (λ (zs2 : List Block × (Unit {0} × (Unit {0} × Unit {0}))). ‵ (lasts Cputorm.ended ((α1 ∷ []), tt) (a2 r1 u1 zs1 α1 γ1) zs2) ⊛
+        raw (fact 𝓤 (Said2 r1 u1 zs1 α1 γ1 r2 zs2)))) (id⊢ 𝓤 _) $
         pick ! (λ zs2. split ! $ move ! (1 ∷ []) $ heard ! (Said2 r1 u1 zs1 α1 γ1 r2 zs2) (λ e2. fsplit ! $ fsplit ! $ move ! (1 ∷ []) $
         feqL ! (λ le2-table. move ! (1 ∷ []) $ fsplit ! $ drop ! $ fsplit ! $ drop ! $ drop ! $ move ! (1 ∷ []) $ split ! $ move ! (1 ∷ []) $
         peeks ! Nothing (Is Nothing) (shows 𝓤 H A Nothing) r2 (u2 ∷ []) (λ gr2.
         land ! (from ! (stop !)) (init ! 26 refl (nothing-lawful 𝓤 H A W .typed r2 _ gr2 .0)) $ drop ! $ split ! $ move ! (1 ∷ []) $ drop ! $
         lft-end ! tt $ move ! (0 ∷ 2 ∷ 1 ∷ []) $
-        use3 W (later (‵ (Arr (inMem T.the-row) (length (now table)) .lies (zs2 .0) (table .ptr .0) (table .ptr .1)))) (slice-back 𝓤 H A W T.the-row (α1 ∷ []) γ1 (zs2 .0) (length (now table)) (table .ptr .0) (table .ptr .1)) $
+        use3 W (later (‵ (Arr (inMem T.the-row) (length (now table)) .lies (zs2 .0) (table .ptr .0) (table .ptr .1)))) (slice-back 𝓤 H A W T.the-row
+        (α1 ∷ []) γ1 (zs2 .0) (length (now table)) (table .ptr .0) (table .ptr .1)) $
         await ! tt $ fsplit ! $ drop ! $
         use1 W (‵ (row T.the-row fullShare (zs2 .0) (table .ptr .0) (table .ptr .1))) (whole-out 𝓤 H A W T.the-row (zs2 .0) (table .ptr .0) (table .ptr .1)) $
         closes-slice ! tt T.the-row (now table) (zs2 .0) le2-table (table .ptr .0) (table .ptr .1) $ fjoin ! $ move ! (2 ∷ []) $ drop ! $
-        pureI ! (at-slice T.the-row (record { ptr = table .ptr; name = table .name; now = (zs2 .0) }) (slice-vals table)) (tt, (tt, tt)) (ap (λ (m : ℕ). sliceVal (table .ptr) m ∷ []) (sym le2-table), subst (Room T.the-row) (sym le2-table) g-table) $
+        pureI ! (at-slice T.the-row (record { ptr = table .ptr; name = table .name; now = (zs2 .0) }) (slice-vals table)) (tt, (tt, tt))
+        (ap (λ (m : ℕ). sliceVal (table .ptr) m ∷ []) (sym le2-table), subst (Room T.the-row) (sym le2-table) g-table) $
         fjoin ! $
         assigns ! (addr ! (from ! (fld ! refl (hop ! (look-in ! 36 (sub ! 0 refl (whole !))) (stop !))))) (from ! (stop !)) (init ! 14 refl (tt, tt)) $
-        assigns ! (agg ! (and-then ! (load ! (from ! (stop !)) (look ! 14 refl)) (and-then ! (load ! (from ! (fld ! refl (stop !))) (look-in ! 36 (sub ! 1 refl (whole !)))) (no-more !)))) (from ! (stop !)) (init ! 12 refl (tt, (tt, (record { fits = g-table .0 }, tt)))) $
+        assigns ! (agg ! (and-then ! (load ! (from ! (stop !)) (look ! 14 refl)) (and-then ! (load ! (from ! (fld ! refl (stop !)))
+        (look-in ! 36 (sub ! 1 refl (whole !)))) (no-more !)))) (from ! (stop !)) (init ! 12 refl (tt, (tt, (record { fits = g-table .0 }, tt)))) $
         nothing ! $ owned ! T.the-row (Is T.the-row) (LL.makes T.the-type T′.the-plain 𝓤 H A) (r1 .whole) _ (fs1 .1 .1 .1 .1 .0) $ fjoin ! $
         owned ! usize (Is usize) (uint-makes 𝓤 H A W w64) (r1 .next) _ (refl, (fs1 .1 .1 .1 .0 .1)) $ fjoin ! $ move ! (1 ∷ 0 ∷ []) $ fjoin ! $
         nothing ! $ move ! (2 ∷ 0 ∷ []) $ join ! $ join ! $
-        use1 W (raw (Cputor 𝓤 H A mem run .pre (to3 r1 u1 zs1 α1 γ1 r2 u2 zs2))) (asks 𝓤 (onEntry 𝓤 H A Cputorm.signature (κ2, tt) (q2, tt) (a3 r1 u1 zs1 α1 γ1 r2 u2 zs2) (slice-vals table, (vint w64 (r1 .next) ∷ [], (LL.vals T.the-type T′.the-laws (r1 .whole), tt))))) $
-        calls-at ! fm (Cputor 𝓤 H A mem run) known2 (to3 r1 u1 zs1 α1 γ1 r2 u2 zs2) (and-then ! (load ! (from ! (stop !)) (look ! 11 refl)) (and-then ! (load ! (from ! (fld ! refl (stop !))) (look-in ! 25 (sub ! 3 refl (whole !)))) (and-then ! (load ! (from ! (fld ! refl (stop !))) (look-in ! 25 (sub ! 4 refl (whole !)))) (no-more !)))) (λ u3.
-        use1 W (later (some (λ (r3 : Unit {0}). ((‵ (flft κ2 q2) ⊛ ‵ ftrue) ⊛ ‵ (Nothing .own r3 (u3 ∷ []))) ⊛ raw (ensured 𝓤 H A Cputorm.ended (Cputorm.clauses 𝓤 H A mem run) (κ2, tt) (a3 r1 u1 zs1 α1 γ1 r2 u2 zs2) tt r3)))) (id⊢ 𝓤 _) $
+        use1 W (raw (Cputor 𝓤 H A mem run .pre (to3 r1 u1 zs1 α1 γ1 r2 u2 zs2))) (asks 𝓤 (onEntry 𝓤 H A Cputorm.signature (κ2, tt) (q2, tt)
+        (a3 r1 u1 zs1 α1 γ1 r2 u2 zs2) (slice-vals table, (vint w64 (r1 .next) ∷ [], (LL.vals T.the-type T′.the-laws (r1 .whole), tt))))) $
+        calls-at ! fm (Cputor 𝓤 H A mem run) known2 (to3 r1 u1 zs1 α1 γ1 r2 u2 zs2) (and-then ! (load ! (from ! (stop !)) (look ! 11 refl))
+        (and-then ! (load ! (from ! (fld ! refl (stop !))) (look-in ! 25 (sub ! 3 refl (whole !))))
+        (and-then ! (load ! (from ! (fld ! refl (stop !))) (look-in ! 25 (sub ! 4 refl (whole !)))) (no-more !)))) (λ u3.
+        use1 W (later (some (λ (r3 : Unit {0}). ((‵ (flft κ2 q2) ⊛ ‵ ftrue) ⊛ ‵ (Nothing .own r3 (u3 ∷ []))) ⊛ raw (ensured 𝓤 H A Cputorm.ended
+        (Cputorm.clauses 𝓤 H A mem run) (κ2, tt) (a3 r1 u1 zs1 α1 γ1 r2 u2 zs2) tt r3)))) (id⊢ 𝓤 _) $
         await ! tt $ pick ! (λ r3. split ! $ move ! (1 ∷ []) $
-        use1 W (some (λ (zs3 : List Block × (Unit {0} × (Unit {0} × Unit {0}))). ‵ (lasts Cputorm.ended (κ2, tt) (a3 r1 u1 zs1 α1 γ1 r2 u2 zs2) zs3) ⊛ raw (fact 𝓤 (Said3 r1 u1 zs1 α1 γ1 r2 u2 zs2 r3 zs3)))) (id⊢ 𝓤 _) $
+        use1 W (some (λ (zs3 : List Block × (Unit {0} × (Unit {0} × Unit {0}))). ‵ (lasts Cputorm.ended (κ2, tt) (a3 r1 u1 zs1 α1 γ1 r2 u2 zs2) zs3) ⊛
+        raw (fact 𝓤 (Said3 r1 u1 zs1 α1 γ1 r2 u2 zs2 r3 zs3)))) (id⊢ 𝓤 _) $
         pick ! (λ zs3. split ! $ move ! (1 ∷ []) $ heard ! (Said3 r1 u1 zs1 α1 γ1 r2 u2 zs2 r3 zs3) (λ e3. fsplit ! $ fsplit ! $ move ! (1 ∷ []) $
         feqL ! (λ le3-table. move ! (1 ∷ []) $ fsplit ! $ drop ! $ fsplit ! $ drop ! $ drop ! $ move ! (1 ∷ []) $ split ! $ move ! (1 ∷ []) $
         peeks ! Nothing (Is Nothing) (shows 𝓤 H A Nothing) r3 (u3 ∷ []) (λ gr3.
         land ! (from ! (stop !)) (store ! 21 refl (nothing-lawful 𝓤 H A W .typed r3 _ gr3 .0)) $ drop ! $ split ! $ move ! (1 ∷ []) $ drop ! $
-        assigns ! (of-opd ! (load ! (from ! (fld ! refl (stop !))) (look-in ! 26 (sub ! 0 refl (whole !))))) (from ! (stop !)) (init ! 44 refl (LL.lawful J.the-type J′.the-laws 𝓤 H A W .typed (r1 .placed) _ (fs1 .0) .0)) $
+        assigns ! (of-opd ! (load ! (from ! (fld ! refl (stop !))) (look-in ! 26 (sub ! 0 refl (whole !))))) (from ! (stop !))
+        (init ! 44 refl (LL.lawful J.the-type J′.the-laws 𝓤 H A W .typed (r1 .placed) _ (fs1 .0) .0)) $
         returns ! (look ! 44 refl) $ forget ! 12 refl $ forget ! 14 refl $ forget ! 16 refl $ forget ! 18 refl $ forget ! 20 refl $
         forget ! 22 refl $ forget ! 24 refl $ forget ! 26 refl $ forget ! 28 refl $ forget ! 30 refl $ forget ! 32 refl $ forget ! 34 refl $
         forget ! 36 refl $ forget ! 38 refl $ forget ! 40 refl $ forget ! 42 refl $ forget ! 44 refl $ move ! (44 ∷ 45 ∷ []) $ free1 ! $
@@ -235,8 +350,16 @@ module _ {M : Type 1} (𝓤 : URA M) (H : Heap 𝓤) (A : Atoms 𝓤) (W : Given
         move ! (26 ∷ 27 ∷ []) $ free1 ! $ move ! (24 ∷ 25 ∷ []) $ free1 ! $ move ! (22 ∷ 23 ∷ []) $ free1 ! $ move ! (20 ∷ 21 ∷ []) $ free1 ! $
         move ! (18 ∷ 19 ∷ []) $ free1 ! $ move ! (16 ∷ 17 ∷ []) $ free1 ! $ move ! (14 ∷ 15 ∷ []) $ free1 ! $ move ! (12 ∷ 13 ∷ []) $ free1 ! $
         free0 ! $
-        suffices ! _ (ends-at 𝓤 H A F.ended stayed (F.clauses 𝓤 H A mem run) W (((κ0, (κ1, (κ2, (κ3, (κ4, (κ5, tt)))))), (q0, (q1, (q2, (q3, (q4, (q5, tt)))))), tt, a, at), tt) (LL.val J.the-type J′.the-laws (r1 .placed)) (r1 .placed) (tt, (tt, ((zs1 .1 .1 .0), ((zs3 .0), (tt, (tt, (tt, tt))))))) (tt, (tt, (le1-bytes, ((le3-table ∙ le2-table), (tt, (tt, (tt, tt)))))))) $
-        says ! (subst (λ (t : List Block). Files (λ b. whyBlock b (now x)) (putBlock (now x)) s (now views) (now bytes) (now table) (now nulls) (now places) (r1 .placed .answer) (now views) (zs1 .1 .1 .0) t (now nulls) (now places)) (sym (e3 ∙ ap (λ (t : List Block). set t (r1 .next) (r1 .whole)) e2)) (e1 (now table) refl .0), e1 (now table) refl .1) $
+        suffices ! _ (ends-at 𝓤 H A F.ended stayed (F.clauses 𝓤 H A mem run) W
+        (((κ0, (κ1, (κ2, (κ3, (κ4, (κ5, tt)))))), (q0, (q1, (q2, (q3, (q4, (q5, tt)))))), tt, a, at), tt) (LL.val J.the-type J′.the-laws
+        (r1 .placed)) (r1 .placed) (tt, (tt, ((zs1 .1 .1 .0), ((zs3 .0), (tt, (tt, (tt, tt)))))))
+        (tt, (tt, (le1-bytes, ((le3-table ∙ le2-table), (tt, (tt, (tt, tt)))))))) $
+        says ! (
+          subst (λ (t : List Block). Files (λ b. whyBlock b (now x)) (putBlock (now x)) s (now views) (now bytes) (now table) (now nulls)
+              (now places) (r1 .placed .answer) (now views) (zs1 .1 .1 .0) t (now nulls) (now places))
+              (sym (e3 ∙ ap (λ (t : List Block). set t (r1 .next) (r1 .whole)) e2)) (e1 (now table) refl .0),
+          e1 (now table) refl .1,
+        ) $
         nothing ! $ move ! (3 ∷ 0 ∷ []) $ join ! $ move ! (3 ∷ 0 ∷ []) $ join ! $ move ! (3 ∷ 0 ∷ []) $ join ! $ move ! (1 ∷ 0 ∷ []) $ join ! $
         move ! (2 ∷ 0 ∷ []) $ join ! $ move ! (2 ∷ 0 ∷ []) $ join ! $ frame ! $ nothing ! $ move ! (6 ∷ 0 ∷ []) $ fjoin ! $ move ! (5 ∷ 0 ∷ []) $
         fjoin ! $ move ! (4 ∷ 0 ∷ []) $ fjoin ! $ move ! (1 ∷ 0 ∷ []) $ fjoin ! $ move ! (1 ∷ 0 ∷ []) $ fjoin ! $ move ! (1 ∷ 0 ∷ []) $ fjoin ! $
@@ -244,19 +367,66 @@ module _ {M : Type 1} (𝓤 : URA M) (H : Heap 𝓤) (A : Atoms 𝓤) (W : Given
         owned ! J.the-row (Is J.the-row) (LL.makes J.the-type J′.the-plain 𝓤 H A) (r1 .placed) _ (fs1 .0) $ done !)))))))))))))))))))))))))))))))))))))
 
 module _ {M : Type 1} (𝓤 : URA M) (H : Heap 𝓤) (A : Atoms 𝓤) (W : Given 𝓤 H A) (mem : Memory → SProp 𝓤) (run : Routine → Fun 𝓤) where
-  walks : (C : Calls 𝓤 H) (Λ : Loops 𝓤 H) → FmC 𝓤 H (W .laws) C → Triple 𝓤 (C #Cblockwith) (Cblockwith 𝓤 H A mem run) → Triple 𝓤 (C #Cputor) (Cputor 𝓤 H A mem run)
+  walks : (C : Calls 𝓤 H) (Λ : Loops 𝓤 H) → FmC 𝓤 H (W .laws) C → Triple 𝓤 (C #Cblockwith) (Cblockwith 𝓤 H A mem run)
+      → Triple 𝓤 (C #Cputor) (Cputor 𝓤 H A mem run)
       → Walks 𝓤 H A F.ended stayed (WpFn 𝓤 H C Λ code.function) (F.clauses 𝓤 H A mem run)
   walks C Λ fm known1 known2 = walked 𝓤 H A F.ended stayed (F.clauses 𝓤 H A mem run) (WpFn 𝓤 H C Λ code.function)
       (λ κs. (LL.vals S.the-type S′.the-laws, (slice-vals, (slice-vals, (slice-vals, (slice-vals, (slice-vals, (slice-vals, tt))))))))
-      (λ κs. (LL.tells S.the-type S′.the-laws, (shr-slice-tells (named 0) (κs .0) u8, (mut-slice-tells (named 1) (κs .1 .0) u8, (mut-slice-tells (named 2) (κs .1 .1 .0) T.the-row, (shr-slice-tells (named 3) (κs .1 .1 .1 .0) u8, (shr-slice-tells (named 4) (κs .1 .1 .1 .1 .0) u32, (shr-slice-tells (named 5) (κs .1 .1 .1 .1 .1 .0) u8, tt))))))))
-      (λ κs qs bounds a _ are. via 𝓤 _ (fst∗ 𝓤 _ (emp 𝓤)) (walk 𝓤 H A W mem run (κs .0) (κs .1 .0) (κs .1 .1 .0) (κs .1 .1 .1 .0) (κs .1 .1 .1 .1 .0) (κs .1 .1 .1 .1 .1 .0) (qs .0) (qs .1 .0) (qs .1 .1 .0) (qs .1 .1 .1 .0) (qs .1 .1 .1 .1 .0) (qs .1 .1 .1 .1 .1 .0) (a .0) (a .1 .0) (a .1 .1 .0) (a .1 .1 .1 .0) (a .1 .1 .1 .1 .0) (a .1 .1 .1 .1 .1 .0) (a .1 .1 .1 .1 .1 .1 .0)
-      (are .0) (are .1 .0 .0 .1) (are .1 .1 .0 .0 .1) (are .1 .1 .1 .0 .0 .1) (are .1 .1 .1 .1 .0 .0 .1) (are .1 .1 .1 .1 .1 .0 .0 .1) (are .1 .1 .1 .1 .1 .1 .0 .0 .1) C Λ fm known1 known2))
+      (λ κs. (
+        LL.tells S.the-type S′.the-laws,
+        (
+          shr-slice-tells (named 0) (κs .0) u8,
+          (
+            mut-slice-tells (named 1) (κs .1 .0) u8,
+            (
+              mut-slice-tells (named 2) (κs .1 .1 .0) T.the-row,
+              (
+                shr-slice-tells (named 3) (κs .1 .1 .1 .0) u8,
+                (
+                  shr-slice-tells (named 4)
+                      (κs .1 .1 .1 .1 .0) u32,
+                  (shr-slice-tells (named 5) (κs .1 .1 .1 .1 .1 .0) u8, tt),
+                ),
+              ),
+            ),
+          ),
+        ),
+      ))
+      (λ κs qs bounds a _ are. via 𝓤 _ (fst∗ 𝓤 _ (emp 𝓤)) (walk 𝓤 H A W mem run (κs .0) (κs .1 .0) (κs .1 .1 .0) (κs .1 .1 .1 .0) (κs .1 .1 .1 .1 .0)
+      (κs .1 .1 .1 .1 .1 .0) (qs .0) (qs .1 .0) (qs .1 .1 .0) (qs .1 .1 .1 .0) (qs .1 .1 .1 .1 .0) (qs .1 .1 .1 .1 .1 .0) (a .0) (a .1 .0)
+      (a .1 .1 .0) (a .1 .1 .1 .0) (a .1 .1 .1 .1 .0) (a .1 .1 .1 .1 .1 .0) (a .1 .1 .1 .1 .1 .1 .0)
+      (are .0) (are .1 .0 .0 .1) (are .1 .1 .0 .0 .1) (are .1 .1 .1 .0 .0 .1) (are .1 .1 .1 .1 .0 .0 .1) (are .1 .1 .1 .1 .1 .0 .0 .1)
+      (are .1 .1 .1 .1 .1 .1 .0 .0 .1) C Λ fm known1 known2))
 
 meets : {M : Type 1} (𝓤 : URA M) (H : Heap 𝓤) (A : Atoms 𝓤) (W : Given 𝓤 H A) (mem : Memory → SProp 𝓤) (run : Routine → Fun 𝓤) (𝓣 : Tables 𝓤 H)
-    → Triple 𝓤 (𝓣 .C #Cblockwith) (Cblockwith 𝓤 H A mem run) → Triple 𝓤 (𝓣 .C #Cputor) (Cputor 𝓤 H A mem run) → Meets 𝓤 H A F.signature (WpFn 𝓤 H (𝓣 .C) (𝓣 .Λ) code.function) (F.spec 𝓤 H A mem run)
-meets 𝓤 H A W mem run 𝓣 known1 known2 = walk-meets 𝓤 H A F.ended stayed W
-    (goes-none 𝓤 H A W 6 (λ _. S.the-row) yes (λ κs x f. refl), (goes-none-slice 𝓤 H A W 6 (0 ∷ []) tt (plain (λ _. u8)) yes, (goes-gave-slice 𝓤 H A W 6 1 tt (plain (λ _. u8)), (goes-gave-slice 𝓤 H A W 6 2 tt (plain (λ _. T.the-row)), (goes-none-slice 𝓤 H A W 6 (3 ∷ []) tt (plain (λ _. u8)) yes, (goes-none-slice 𝓤 H A W 6 (4 ∷ []) tt (plain (λ _. u32)) yes, (goes-none-slice 𝓤 H A W 6 (5 ∷ []) tt (plain (λ _. u8)) yes, tt)))))))
-    (F.clauses 𝓤 H A mem run) (WpFn 𝓤 H (𝓣 .C) (𝓣 .Λ) code.function) (WpFn-mono 𝓤 H (W .laws) 𝓣 code.function) (walks 𝓤 H A W mem run (𝓣 .C) (𝓣 .Λ) (fmOf 𝓤 H (W .laws) 𝓣) known1 known2)
+    → Triple 𝓤 (𝓣 .C #Cblockwith) (Cblockwith 𝓤 H A mem run) → Triple 𝓤 (𝓣 .C #Cputor) (Cputor 𝓤 H A mem run)
+    → Meets 𝓤 H A F.signature (WpFn 𝓤 H (𝓣 .C) (𝓣 .Λ) code.function) (F.spec 𝓤 H A mem run)
+meets 𝓤 H A W mem run 𝓣 known1 known2 = walk-meets 𝓤 H A F.ended stayed W (
+  goes-none 𝓤 H A W 6 (λ _. S.the-row) yes (λ κs x f. refl),
+  (
+    goes-none-slice 𝓤 H A W 6 (0 ∷ []) tt (plain (λ _. u8)) yes,
+    (
+      goes-gave-slice 𝓤 H A W 6 1 tt (plain (λ _. u8)),
+      (
+        goes-gave-slice 𝓤 H A W 6 2 tt (plain (λ _. T.the-row)),
+        (
+          goes-none-slice 𝓤 H A W 6
+              (3 ∷ []) tt (plain (λ _. u8)) yes,
+          (
+            goes-none-slice 𝓤 H A W 6 (4 ∷ []) tt (plain (λ _. u32)) yes,
+            (
+              goes-none-slice 𝓤 H A W 6 (5 ∷ []) tt
+                  (plain (λ _. u8)) yes,
+              tt,
+            ),
+          ),
+        ),
+      ),
+    ),
+  ),
+)
+    (F.clauses 𝓤 H A mem run) (WpFn 𝓤 H (𝓣 .C) (𝓣 .Λ) code.function) (WpFn-mono 𝓤 H (W .laws) 𝓣 code.function) (walks 𝓤 H A W mem run (𝓣 .C) (𝓣 .Λ)
+    (fmOf 𝓤 H (W .laws) 𝓣) known1 known2)
 
 pub append-block-spec : {M : Type 1} → stated.statement M
 unfolding code.routine tablesOf

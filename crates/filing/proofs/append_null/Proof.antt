@@ -55,7 +55,26 @@ use Rattle.filing.proofs.append_null.Statement as stated
 use Rattle.filing.proofs.append_null.Code as code
 
 abbrev stayed : Stays (F.ended .signature .params) (F.ended .kept)
-stayed = (stay-none (λ _. S.the-row) yes, (gave-slice (0 ∷ []) tt (plain (λ _. u8)), (stay-none-slice (1 ∷ []) tt (plain (λ _. u8)) yes, (stay-none-slice (2 ∷ []) tt (plain (λ _. T.the-row)) yes, (gave-slice (3 ∷ []) tt (plain (λ _. u8)), (stay-none-slice (4 ∷ []) tt (plain (λ _. u32)) yes, tt))))))
+stayed = (
+  stay-none (λ _. S.the-row) yes,
+  (
+    gave-slice (0 ∷ []) tt (plain (λ _. u8)),
+    (
+      stay-none-slice (1 ∷ []) tt (plain (λ _. u8)) yes,
+      (
+        stay-none-slice (2 ∷ []) tt (plain (λ _. T.the-row)) yes,
+        (
+          gave-slice (3 ∷ []) tt (plain (λ _. u8)),
+          (
+            stay-none-slice (4 ∷ []) tt
+                (plain (λ _. u32)) yes,
+            tt,
+          ),
+        ),
+      ),
+    ),
+  ),
+)
 
 -- a call that asks nothing but what it is handed
 asks : {M : Type 1} (𝓤 : URA M) (P : SProp 𝓤) → ent 𝓤 P (sep 𝓤 P (emp 𝓤))
@@ -66,9 +85,11 @@ module _ {M : Type 1} (𝓤 : URA M) (H : Heap 𝓤) (A : Atoms 𝓤) (mem : Mem
   abbrev Cnullwith : Contract 𝓤
   Cnullwith = tripleOf 𝓤 H A Cnullwithm.signature (Cnullwithm.spec 𝓤 H A mem run)
 
-module _ {M : Type 1} (𝓤 : URA M) (H : Heap 𝓤) (A : Atoms 𝓤) (W : Given 𝓤 H A) (mem : Memory → SProp 𝓤) (run : Routine → Fun 𝓤) (κ0 κ1 κ2 κ3 κ4 : Lft) (q0 q1 q2 q3 q4 : Share)
+module _ {M : Type 1} (𝓤 : URA M) (H : Heap 𝓤) (A : Atoms 𝓤) (W : Given 𝓤 H A) (mem : Memory → SProp 𝓤) (run : Routine → Fun 𝓤) (κ0 κ1 κ2 κ3 κ4 : Lft)
+    (q0 q1 q2 q3 q4 : Share)
     (s : State) (views : RefT (List ℕ)) (bytes : RefT (List ℕ)) (table : RefT (List Block)) (nulls : RefT (List ℕ)) (places : RefT (List ℕ))
-    (g-s : Is S.the-row s (LL.vals S.the-type S′.the-laws s)) (g-views : Room u8 (length (now views))) (g-bytes : Room u8 (length (now bytes))) (g-table : Room T.the-row (length (now table))) (g-nulls : Room u8 (length (now nulls))) (g-places : Room u32 (length (now places))) where
+    (g-s : Is S.the-row s (LL.vals S.the-type S′.the-laws s)) (g-views : Room u8 (length (now views))) (g-bytes : Room u8 (length (now bytes)))
+    (g-table : Room T.the-row (length (now table))) (g-nulls : Room u8 (length (now nulls))) (g-places : Room u32 (length (now places))) where
   abbrev a : State × (RefT (List ℕ) × (RefT (List ℕ) × (RefT (List Block) × (RefT (List ℕ) × (RefT (List ℕ) × Unit {0})))))
   a = (s, (views, (bytes, (table, (nulls, (places, tt))))))
 
@@ -76,7 +97,8 @@ module _ {M : Type 1} (𝓤 : URA M) (H : Heap 𝓤) (A : Atoms 𝓤) (W : Given
   at = (LL.vals S.the-type S′.the-laws s, (slice-vals views, (slice-vals bytes, (slice-vals table, (slice-vals nulls, (slice-vals places, tt))))))
 
   abbrev passed : List Val
-  passed = LL.val S.the-type S′.the-laws s ∷ sliceVal (views .ptr) (length (now views)) ∷ sliceVal (bytes .ptr) (length (now bytes)) ∷ sliceVal (table .ptr) (length (now table)) ∷ sliceVal (nulls .ptr) (length (now nulls)) ∷ sliceVal (places .ptr) (length (now places)) ∷ []
+  passed = LL.val S.the-type S′.the-laws s ∷ sliceVal (views .ptr) (length (now views)) ∷ sliceVal (bytes .ptr) (length (now bytes)) ∷ sliceVal
+      (table .ptr) (length (now table)) ∷ sliceVal (nulls .ptr) (length (now nulls)) ∷ sliceVal (places .ptr) (length (now places)) ∷ []
 
   abbrev Post : Val → SProp 𝓤
   Post = walkOf 𝓤 H A F.ended stayed (F.clauses 𝓤 H A mem run) .post (((κ0, (κ1, (κ2, (κ3, (κ4, tt))))), (q0, (q1, (q2, (q3, (q4, tt))))), tt, a, at), tt)
@@ -100,15 +122,30 @@ module _ {M : Type 1} (𝓤 : URA M) (H : Heap 𝓤) (A : Atoms 𝓤) (W : Given
   a1 = (s, (views, (bytes, ((length (now table)), (nulls, (places, tt))))))
 
   abbrev to1 : Cnullwith 𝓤 H A mem run .Ghost
-  to1 = (((κ0, (κ1, (κ3, (κ4, tt)))), (q0, (q1, (q3, (q4, tt)))), tt, a1, (LL.vals S.the-type S′.the-laws s, (slice-vals views, (slice-vals bytes, (vint w64 (length (now table)) ∷ [], (slice-vals nulls, (slice-vals places, tt))))))), tt)
+  to1 = (
+    (
+      (κ0, (κ1, (κ3, (κ4, tt)))),
+      (q0, (q1, (q3, (q4, tt)))),
+      tt,
+      a1,
+      (
+        LL.vals S.the-type S′.the-laws s,
+        (slice-vals views, (slice-vals bytes, (vint w64 (length (now table)) ∷ [], (slice-vals nulls, (slice-vals places, tt))))),
+      ),
+    ),
+    tt,
+  )
 
   abbrev Said1 : (r1 : Answer) (zs1 : Unit {0} × (List ℕ × (Unit {0} × (Unit {0} × (List ℕ × (Unit {0} × Unit {0})))))) → Type 0
-  Said1 r1 zs1 = ((t : List Block) → (length (now table)) ≡ length t → Files whyNull putNull s (now views) (now bytes) t (now nulls) (now places) r1 (zs1 .1 .0) (now bytes) t (zs1 .1 .1 .1 .1 .0) (now places))
+  Said1 r1 zs1 = ((t : List Block) → (length (now table)) ≡ length t → Files whyNull putNull s (now views) (now bytes) t (now nulls) (now places) r1
+      (zs1 .1 .0) (now bytes) t (zs1 .1 .1 .1 .1 .0) (now places))
 
   module _ (C : Calls 𝓤 H) (Λ : Loops 𝓤 H) (fm : FmC 𝓤 H (W .laws) C) (known1 : Triple 𝓤 (C #Cnullwith) (Cnullwith 𝓤 H A mem run)) where
     walk : ent 𝓤 (onEntry 𝓤 H A F.signature (κ0, (κ1, (κ2, (κ3, (κ4, tt))))) (q0, (q1, (q2, (q3, (q4, tt))))) a at) (WpFn 𝓤 H C Λ code.function passed Post)
     walk =
-        qed W ((‵ (flft κ0 q0) ⊛ ‵ (flft κ1 q1) ⊛ ‵ (flft κ2 q2) ⊛ ‵ (flft κ3 q3) ⊛ ‵ (flft κ4 q4) ⊛ ‵ ftrue) ∷ ‵ (owns (S.the-row ∷ MutSlice (named 0) κ0 u8 ∷ ShrSlice (named 1) κ1 u8 ∷ ShrSlice (named 2) κ2 T.the-row ∷ MutSlice (named 3) κ3 u8 ∷ ShrSlice (named 4) κ4 u32 ∷ []) a at) ∷ []) ∵
+        qed W ((‵ (flft κ0 q0) ⊛ ‵ (flft κ1 q1) ⊛ ‵ (flft κ2 q2) ⊛ ‵ (flft κ3 q3) ⊛ ‵ (flft κ4 q4) ⊛ ‵ ftrue) ∷ ‵
+        (owns (S.the-row ∷ MutSlice (named 0) κ0 u8 ∷ ShrSlice (named 1) κ1 u8 ∷ ShrSlice (named 2) κ2 T.the-row ∷ MutSlice (named 3) κ3 u8
+        ∷ ShrSlice (named 4) κ4 u32 ∷ []) a at) ∷ []) ∵
         split ! $ move ! (1 ∷ []) $ split ! $ move ! (1 ∷ []) $ split ! $ move ! (1 ∷ []) $ split ! $ move ! (1 ∷ []) $ split ! $ move ! (1 ∷ []) $
         drop ! $ move ! (5 ∷ []) $ fsplit ! $ drop ! $ fsplit ! $ move ! (1 ∷ []) $ fsplit ! $ move ! (1 ∷ []) $ fsplit ! $ move ! (1 ∷ []) $
         fsplit ! $ move ! (1 ∷ []) $ fsplit ! $ move ! (1 ∷ []) $ drop ! $ enter ! C Λ code.function passed _ $ alloc1 ! (λ l0. alloc1 ! (λ l1.
@@ -120,11 +157,14 @@ module _ {M : Type 1} (𝓤 : URA M) (H : Heap 𝓤) (A : Atoms 𝓤) (W : Given
         pass1 ! (init ! 14 refl (tt, (tt, (record { fits = g-table .0 }, tt)))) $
         pass1 ! (init ! 12 refl (tt, (tt, (record { fits = g-nulls .0 }, tt)))) $
         pass1 ! (init ! 10 refl (tt, (tt, (record { fits = g-places .0 }, tt)))) $ pass0 ! $
-        assigns ! (of-opd ! (load ! (from ! (fld ! refl (stop !))) (look-in ! 14 (sub ! 1 refl (whole !))))) (from ! (stop !)) (init ! 8 refl (tt, record { fits = (g-table .0) })) $
+        assigns ! (of-opd ! (load ! (from ! (fld ! refl (stop !))) (look-in ! 14 (sub ! 1 refl (whole !))))) (from ! (stop !))
+        (init ! 8 refl (tt, record { fits = (g-table .0) })) $
         assigns ! (addr ! (from ! (fld ! refl (hop ! (look-in ! 18 (sub ! 0 refl (whole !))) (stop !))))) (from ! (stop !)) (init ! 6 refl (tt, tt)) $
-        assigns ! (agg ! (and-then ! (load ! (from ! (stop !)) (look ! 6 refl)) (and-then ! (load ! (from ! (fld ! refl (stop !))) (look-in ! 18 (sub ! 1 refl (whole !)))) (no-more !)))) (from ! (stop !)) (init ! 4 refl (tt, (tt, (record { fits = g-views .0 }, tt)))) $
+        assigns ! (agg ! (and-then ! (load ! (from ! (stop !)) (look ! 6 refl)) (and-then ! (load ! (from ! (fld ! refl (stop !)))
+        (look-in ! 18 (sub ! 1 refl (whole !)))) (no-more !)))) (from ! (stop !)) (init ! 4 refl (tt, (tt, (record { fits = g-views .0 }, tt)))) $
         assigns ! (addr ! (from ! (fld ! refl (hop ! (look-in ! 12 (sub ! 0 refl (whole !))) (stop !))))) (from ! (stop !)) (init ! 2 refl (tt, tt)) $
-        assigns ! (agg ! (and-then ! (load ! (from ! (stop !)) (look ! 2 refl)) (and-then ! (load ! (from ! (fld ! refl (stop !))) (look-in ! 12 (sub ! 1 refl (whole !)))) (no-more !)))) (from ! (stop !)) (init ! 0 refl (tt, (tt, (record { fits = g-nulls .0 }, tt)))) $
+        assigns ! (agg ! (and-then ! (load ! (from ! (stop !)) (look ! 2 refl)) (and-then ! (load ! (from ! (fld ! refl (stop !)))
+        (look-in ! 12 (sub ! 1 refl (whole !)))) (no-more !)))) (from ! (stop !)) (init ! 0 refl (tt, (tt, (record { fits = g-nulls .0 }, tt)))) $
         nothing ! $ move ! (25 ∷ []) $
         use1 W (‵ Own-places ⊛ ‵ Own-places) (shr-slice-copy 𝓤 H A W (named 4) κ4 u32 .twice places (slice-vals places)) $ split ! $
         move ! (0 ∷ 2 ∷ []) $ fjoin ! $ move ! (26 ∷ 0 ∷ []) $ fjoin ! $
@@ -133,11 +173,21 @@ module _ {M : Type 1} (𝓤 : URA M) (H : Heap 𝓤) (A : Atoms 𝓤) (W : Given
         fjoin ! $ move ! (28 ∷ 0 ∷ []) $ fjoin ! $ owned ! S.the-row (Is S.the-row) (LL.makes S.the-type S′.the-plain 𝓤 H A) s _ g-s $ fjoin ! $
         nothing ! $ move ! (29 ∷ 0 ∷ []) $ join ! $ move ! (29 ∷ 0 ∷ []) $ join ! $ move ! (30 ∷ 0 ∷ []) $ join ! $ move ! (30 ∷ 0 ∷ []) $ join ! $
         join ! $
-        use1 W (raw (Cnullwith 𝓤 H A mem run .pre to1)) (asks 𝓤 (onEntry 𝓤 H A Cnullwithm.signature (κ0, (κ1, (κ3, (κ4, tt)))) (q0, (q1, (q3, (q4, tt)))) a1 (LL.vals S.the-type S′.the-laws s, (slice-vals views, (slice-vals bytes, (vint w64 (length (now table)) ∷ [], (slice-vals nulls, (slice-vals places, tt)))))))) $
-        calls-at ! fm (Cnullwith 𝓤 H A mem run) known1 to1 (and-then ! (load ! (from ! (stop !)) (look ! 23 refl)) (and-then ! (load ! (from ! (stop !)) (look ! 7 refl)) (and-then ! (load ! (from ! (stop !)) (look ! 19 refl)) (and-then ! (load ! (from ! (stop !)) (look ! 11 refl)) (and-then ! (load ! (from ! (stop !)) (look ! 3 refl)) (and-then ! (load ! (from ! (stop !)) (look ! 13 refl)) (no-more !))))))) (λ u1.
-        use1 W (later (some (λ (r1 : Answer). ((‵ (flft κ0 q0) ⊛ ‵ (flft κ1 q1) ⊛ ‵ (flft κ3 q3) ⊛ ‵ (flft κ4 q4) ⊛ ‵ ftrue) ⊛ ‵ (N.the-row .own r1 (u1 ∷ []))) ⊛ raw (ensured 𝓤 H A Cnullwithm.ended (Cnullwithm.clauses 𝓤 H A mem run) (κ0, (κ1, (κ3, (κ4, tt)))) a1 tt r1)))) (id⊢ 𝓤 _) $
+        use1 W (raw (Cnullwith 𝓤 H A mem run .pre to1)) (asks 𝓤 (onEntry 𝓤 H A Cnullwithm.signature (κ0, (κ1, (κ3, (κ4, tt))))
+        (q0, (q1, (q3, (q4, tt)))) a1 (
+          LL.vals S.the-type S′.the-laws s,
+          (slice-vals views, (slice-vals bytes, (vint w64 (length (now table)) ∷ [], (slice-vals nulls, (slice-vals places, tt))))),
+        ))) $
+        calls-at ! fm (Cnullwith 𝓤 H A mem run) known1 to1 (and-then ! (load ! (from ! (stop !)) (look ! 23 refl))
+        (and-then ! (load ! (from ! (stop !)) (look ! 7 refl)) (and-then ! (load ! (from ! (stop !)) (look ! 19 refl))
+        (and-then ! (load ! (from ! (stop !)) (look ! 11 refl)) (and-then ! (load ! (from ! (stop !)) (look ! 3 refl))
+        (and-then ! (load ! (from ! (stop !)) (look ! 13 refl)) (no-more !))))))) (λ u1.
+        use1 W (later (some (λ (r1 : Answer). ((‵ (flft κ0 q0) ⊛ ‵ (flft κ1 q1) ⊛ ‵ (flft κ3 q3) ⊛ ‵ (flft κ4 q4) ⊛ ‵ ftrue) ⊛ ‵
+        (N.the-row .own r1 (u1 ∷ []))) ⊛ raw (ensured 𝓤 H A Cnullwithm.ended (Cnullwithm.clauses 𝓤 H A mem run) (κ0, (κ1, (κ3, (κ4, tt)))) a1 tt
+        r1)))) (id⊢ 𝓤 _) $
         await ! tt $ pick ! (λ r1. split ! $ move ! (1 ∷ []) $
-        use1 W (some (λ (zs1 : Unit {0} × (List ℕ × (Unit {0} × (Unit {0} × (List ℕ × (Unit {0} × Unit {0})))))). ‵ (lasts Cnullwithm.ended (κ0, (κ1, (κ3, (κ4, tt)))) a1 zs1) ⊛ raw (fact 𝓤 (Said1 r1 zs1)))) (id⊢ 𝓤 _) $
+        use1 W (some (λ (zs1 : Unit {0} × (List ℕ × (Unit {0} × (Unit {0} × (List ℕ × (Unit {0} × Unit {0})))))). ‵
+        (lasts Cnullwithm.ended (κ0, (κ1, (κ3, (κ4, tt)))) a1 zs1) ⊛ raw (fact 𝓤 (Said1 r1 zs1)))) (id⊢ 𝓤 _) $
         pick ! (λ zs1. split ! $ move ! (1 ∷ []) $ heard ! (Said1 r1 zs1) (λ e1. fsplit ! $ drop ! $ fsplit ! $ fsplit ! $ move ! (1 ∷ []) $
         feqL ! (λ le1-views. move ! (1 ∷ []) $ fsplit ! $ drop ! $ fsplit ! $ drop ! $ fsplit ! $ fsplit ! $ move ! (1 ∷ []) $ feqL ! (λ le1-nulls.
         move ! (1 ∷ []) $ fsplit ! $ drop ! $ drop ! $ move ! (2 ∷ []) $ split ! $ move ! (1 ∷ []) $
@@ -149,7 +199,16 @@ module _ {M : Type 1} (𝓤 : URA M) (H : Heap 𝓤) (A : Atoms 𝓤) (W : Given
         move ! (28 ∷ 29 ∷ []) $ free1 ! $ move ! (26 ∷ 27 ∷ []) $ free1 ! $ move ! (24 ∷ 25 ∷ []) $ free1 ! $ move ! (22 ∷ 23 ∷ []) $ free1 ! $
         move ! (20 ∷ 21 ∷ []) $ free1 ! $ move ! (18 ∷ 19 ∷ []) $ free1 ! $ move ! (16 ∷ 17 ∷ []) $ free1 ! $ move ! (14 ∷ 15 ∷ []) $ free1 ! $
         move ! (12 ∷ 13 ∷ []) $ free1 ! $ move ! (10 ∷ 11 ∷ []) $ free1 ! $ move ! (8 ∷ 9 ∷ []) $ free1 ! $ free0 ! $
-        suffices ! _ (ends-at 𝓤 H A F.ended stayed (F.clauses 𝓤 H A mem run) W (((κ0, (κ1, (κ2, (κ3, (κ4, tt))))), (q0, (q1, (q2, (q3, (q4, tt))))), tt, a, at), tt) u1 r1 (tt, ((zs1 .1 .0), (tt, (tt, ((zs1 .1 .1 .1 .1 .0), (tt, tt)))))) (tt, (le1-views, (tt, (tt, (le1-nulls, (tt, tt))))))) $
+        suffices ! _ (ends-at 𝓤 H A F.ended stayed (F.clauses 𝓤 H A mem run) W (
+          (
+            (κ0, (κ1, (κ2, (κ3, (κ4, tt))))),
+            (q0, (q1, (q2, (q3, (q4, tt))))),
+            tt,
+            a,
+            at,
+          ),
+          tt,
+        ) u1 r1 (tt, ((zs1 .1 .0), (tt, (tt, ((zs1 .1 .1 .1 .1 .0), (tt, tt)))))) (tt, (le1-views, (tt, (tt, (le1-nulls, (tt, tt))))))) $
         says ! (e1 (now table) refl) $ nothing ! $ move ! (1 ∷ 0 ∷ []) $ join ! $ move ! (1 ∷ 0 ∷ []) $ join ! $ move ! (8 ∷ 0 ∷ []) $ join ! $
         move ! (1 ∷ 0 ∷ []) $ join ! $ move ! (1 ∷ 0 ∷ []) $ join ! $ frame ! $ nothing ! $ move ! (4 ∷ 0 ∷ []) $ fjoin ! $ move ! (1 ∷ 0 ∷ []) $
         fjoin ! $ move ! (3 ∷ 0 ∷ []) $ fjoin ! $ move ! (2 ∷ 0 ∷ []) $ fjoin ! $ move ! (1 ∷ 0 ∷ []) $ fjoin ! $
@@ -161,15 +220,53 @@ module _ {M : Type 1} (𝓤 : URA M) (H : Heap 𝓤) (A : Atoms 𝓤) (W : Given
       → Walks 𝓤 H A F.ended stayed (WpFn 𝓤 H C Λ code.function) (F.clauses 𝓤 H A mem run)
   walks C Λ fm known1 = walked 𝓤 H A F.ended stayed (F.clauses 𝓤 H A mem run) (WpFn 𝓤 H C Λ code.function)
       (λ κs. (LL.vals S.the-type S′.the-laws, (slice-vals, (slice-vals, (slice-vals, (slice-vals, (slice-vals, tt)))))))
-      (λ κs. (LL.tells S.the-type S′.the-laws, (mut-slice-tells (named 0) (κs .0) u8, (shr-slice-tells (named 1) (κs .1 .0) u8, (shr-slice-tells (named 2) (κs .1 .1 .0) T.the-row, (mut-slice-tells (named 3) (κs .1 .1 .1 .0) u8, (shr-slice-tells (named 4) (κs .1 .1 .1 .1 .0) u32, tt)))))))
-      (λ κs qs bounds a _ are. via 𝓤 _ (fst∗ 𝓤 _ (emp 𝓤)) (walk 𝓤 H A W mem run (κs .0) (κs .1 .0) (κs .1 .1 .0) (κs .1 .1 .1 .0) (κs .1 .1 .1 .1 .0) (qs .0) (qs .1 .0) (qs .1 .1 .0) (qs .1 .1 .1 .0) (qs .1 .1 .1 .1 .0) (a .0) (a .1 .0) (a .1 .1 .0) (a .1 .1 .1 .0) (a .1 .1 .1 .1 .0) (a .1 .1 .1 .1 .1 .0)
+      (λ κs. (
+        LL.tells S.the-type S′.the-laws,
+        (
+          mut-slice-tells (named 0) (κs .0) u8,
+          (
+            shr-slice-tells (named 1) (κs .1 .0) u8,
+            (
+              shr-slice-tells (named 2) (κs .1 .1 .0) T.the-row,
+              (
+                mut-slice-tells (named 3) (κs .1 .1 .1 .0) u8,
+                (
+                  shr-slice-tells (named 4)
+                      (κs .1 .1 .1 .1 .0) u32,
+                  tt,
+                ),
+              ),
+            ),
+          ),
+        ),
+      ))
+      (λ κs qs bounds a _ are. via 𝓤 _ (fst∗ 𝓤 _ (emp 𝓤)) (walk 𝓤 H A W mem run (κs .0) (κs .1 .0) (κs .1 .1 .0) (κs .1 .1 .1 .0) (κs .1 .1 .1 .1 .0)
+      (qs .0) (qs .1 .0) (qs .1 .1 .0) (qs .1 .1 .1 .0) (qs .1 .1 .1 .1 .0) (a .0) (a .1 .0) (a .1 .1 .0) (a .1 .1 .1 .0) (a .1 .1 .1 .1 .0)
+      (a .1 .1 .1 .1 .1 .0)
       (are .0) (are .1 .0 .0 .1) (are .1 .1 .0 .0 .1) (are .1 .1 .1 .0 .0 .1) (are .1 .1 .1 .1 .0 .0 .1) (are .1 .1 .1 .1 .1 .0 .0 .1) C Λ fm known1))
 
 meets : {M : Type 1} (𝓤 : URA M) (H : Heap 𝓤) (A : Atoms 𝓤) (W : Given 𝓤 H A) (mem : Memory → SProp 𝓤) (run : Routine → Fun 𝓤) (𝓣 : Tables 𝓤 H)
     → Triple 𝓤 (𝓣 .C #Cnullwith) (Cnullwith 𝓤 H A mem run) → Meets 𝓤 H A F.signature (WpFn 𝓤 H (𝓣 .C) (𝓣 .Λ) code.function) (F.spec 𝓤 H A mem run)
-meets 𝓤 H A W mem run 𝓣 known1 = walk-meets 𝓤 H A F.ended stayed W
-    (goes-none 𝓤 H A W 5 (λ _. S.the-row) yes (λ κs x f. refl), (goes-gave-slice 𝓤 H A W 5 0 tt (plain (λ _. u8)), (goes-none-slice 𝓤 H A W 5 (1 ∷ []) tt (plain (λ _. u8)) yes, (goes-none-slice 𝓤 H A W 5 (2 ∷ []) tt (plain (λ _. T.the-row)) yes, (goes-gave-slice 𝓤 H A W 5 3 tt (plain (λ _. u8)), (goes-none-slice 𝓤 H A W 5 (4 ∷ []) tt (plain (λ _. u32)) yes, tt))))))
-    (F.clauses 𝓤 H A mem run) (WpFn 𝓤 H (𝓣 .C) (𝓣 .Λ) code.function) (WpFn-mono 𝓤 H (W .laws) 𝓣 code.function) (walks 𝓤 H A W mem run (𝓣 .C) (𝓣 .Λ) (fmOf 𝓤 H (W .laws) 𝓣) known1)
+meets 𝓤 H A W mem run 𝓣 known1 = walk-meets 𝓤 H A F.ended stayed W (
+  goes-none 𝓤 H A W 5 (λ _. S.the-row) yes (λ κs x f. refl),
+  (
+    goes-gave-slice 𝓤 H A W 5 0 tt (plain (λ _. u8)),
+    (
+      goes-none-slice 𝓤 H A W 5 (1 ∷ [])
+          tt (plain (λ _. u8)) yes,
+      (
+        goes-none-slice 𝓤 H A W 5 (2 ∷ []) tt (plain (λ _. T.the-row)) yes,
+        (
+          goes-gave-slice 𝓤 H A W 5 3 tt
+              (plain (λ _. u8)),
+          (goes-none-slice 𝓤 H A W 5 (4 ∷ []) tt (plain (λ _. u32)) yes, tt),
+        ),
+      ),
+    ),
+  ),
+)
+    (F.clauses 𝓤 H A mem run) (WpFn 𝓤 H (𝓣 .C) (𝓣 .Λ) code.function) (WpFn-mono 𝓤 H (W .laws) 𝓣 code.function) (walks 𝓤 H A W mem run (𝓣 .C) (𝓣 .Λ)
+    (fmOf 𝓤 H (W .laws) 𝓣) known1)
 
 pub append-null-spec : {M : Type 1} → stated.statement M
 unfolding code.routine tablesOf

@@ -17,10 +17,20 @@ does-merge-requires : tie.Need-does-merge-requires
 does-merge-requires c κs = search needs
 
 returns-2 : tie.Need-returns-2
-returns-2 c = (λ hit l. begin-off (now (c .before .before .before .before .before .args .places)) hit (c .before .before .before .before .before .args .s) (now (c .before .before .before .before .before .args .x)) _ (c .before .does-merge .ensures) (not-true _ (c .if2 .taken)), λ h. absurd (omega arith))
+returns-2 c =
+    let b5 = c .before .before .before .before .before in (
+      λ hit l. begin-off (now (b5 .args .places)) hit (b5 .args .s) (now (b5 .args .x)) _ (c .before .does-merge .ensures)
+          (not-true _ (c .if2 .taken)),
+      λ h. absurd (omega arith),
+    )
 
 returns-3 : tie.Need-returns-3
-returns-3 c = (λ hit l. begin-none (now (c .before .before .before .before .before .before .args .places)) hit (c .before .before .before .before .before .before .args .s) (now (c .before .before .before .before .before .before .args .x)) _ (c .before .before .does-merge .ensures) (not-false _ (c .before .if2 .left)) (c .if3 .taken), λ h. absurd (omega arith))
+returns-3 c =
+    let b6 = c .before .before .before .before .before .before in (
+      λ hit l. begin-none (now (b6 .args .places)) hit (b6 .args .s) (now (b6 .args .x)) _ (c .before .before .does-merge .ensures)
+          (not-false _ (c .before .if2 .left)) (c .if3 .taken),
+      λ h. absurd (omega arith),
+    )
 
 hash-requires : tie.Need-hash-requires
 hash-requires c κs = omega arith
@@ -29,7 +39,13 @@ rem-p : tie.Need-rem-p
 rem-p c = search needs
 
 returns-4 : tie.Need-returns-4
-returns-4 c = (λ hit l. begin-on (now (c .before .before .before .before .before .before .before .args .places)) hit (c .before .before .before .before .before .before .before .args .s) (now (c .before .before .before .before .before .before .before .args .x)) _ _ (c .before .before .before .does-merge .ensures) (not-false _ (c .before .before .if2 .left)) (ap (λ (z : ℕ). z % length (now (c .before .before .before .before .before .before .before .args .places))) (c .hash .ensures)), λ h. mod-lt _ (omega (arith, c .before .if3 .left)))
+returns-4 c =
+    let b7 = c .before .before .before .before .before .before .before in (
+      λ hit l. begin-on (now (b7 .args .places)) hit (b7 .args .s) (now (b7 .args .x)) _ _ (c .before .before .before .does-merge .ensures)
+          (not-false _ (c .before .before .if2 .left)) (ap (λ (z : ℕ). z % length (now (b7 .args .places))) (c .hash .ensures)),
+      λ h. mod-lt _
+          (omega (arith, c .before .if3 .left)),
+    )
 
 pub begin-spec : {M : Type 1} → statement M
 begin-spec =

@@ -16,7 +16,10 @@ refused-requires : tie.Need-refused-requires
 refused-requires c κs = search needs
 
 returns : tie.Need-returns
-returns c = ended-no (c .before .before .before .before .before .before .before .args .s) (now (c .before .before .before .before .before .before .before .args .views)) (now (c .before .before .before .before .before .before .before .args .bytes)) (now (c .before .before .before .before .before .before .before .args .nulls)) (now (c .before .before .before .before .before .before .before .args .places)) (c .before .before .before .before .before .before .before .args .count) _ _ _ _ (sym (c .before .before .fits-with .ensures) ∙ not-true _ (c .before .if1 .taken)) (c .refused .ensures .0) (c .refused .ensures .1)
+returns c =
+    let b7 = c .before .before .before .before .before .before .before in
+    ended-no (b7 .args .s) (now (b7 .args .views)) (now (b7 .args .bytes)) (now (b7 .args .nulls)) (now (b7 .args .places)) (b7 .args .count) _ _ _ _
+    (sym (c .before .before .fits-with .ensures) ∙ not-true _ (c .before .if1 .taken)) (c .refused .ensures .0) (c .refused .ensures .1)
 
 clear-requires : tie.Need-clear-requires
 clear-requires c κs = search needs
@@ -25,7 +28,11 @@ open-record-requires : tie.Need-open-record-requires
 open-record-requires c κs = search needs
 
 column-of-requires : tie.Need-column-of-requires
-column-of-requires c κs = let f = fitted (c .before .before .before .before .before .before .before .before .before .before .before .args .s) (now (c .before .before .before .before .before .before .before .before .before .before .before .args .views)) (now (c .before .before .before .before .before .before .before .before .before .before .before .args .bytes)) (now (c .before .before .before .before .before .before .before .before .before .before .before .args .nulls)) (now (c .before .before .before .before .before .before .before .before .before .before .before .args .places)) (c .before .before .before .before .before .before .before .before .before .before .before .args .count) (sym (c .before .before .before .before .before .before .fits-with .ensures) ∙ not-false _ (c .before .before .before .before .before .if1 .left)) in omega (arith, f .blocks, block-limit-small)
+column-of-requires c κs =
+    let b11 = c .before .before .before .before .before .before .before .before .before .before .before in
+    let f = fitted (b11 .args .s) (now (b11 .args .views)) (now (b11 .args .bytes)) (now (b11 .args .nulls)) (now (b11 .args .places))
+    (b11 .args .count) (sym (c .before .before .before .before .before .before .fits-with .ensures)
+    ∙ not-false _ (c .before .before .before .before .before .if1 .left)) in omega (arith, f .blocks, block-limit-small)
 
 empty-state-requires : tie.Need-empty-state-requires
 empty-state-requires c κs = search needs
@@ -34,7 +41,13 @@ same-length : tie.Need-same-length
 same-length c = search needs
 
 returns-2 : tie.Need-returns-2
-returns-2 c = ended-finished (c .before .before .before .before .before .before .before .before .before .before .before .before .before .before .args .s) (now (c .before .before .before .before .before .before .before .before .before .before .before .before .before .before .args .views)) (now (c .before .before .before .before .before .before .before .before .before .before .before .before .before .before .args .bytes)) (now (c .before .before .before .before .before .before .before .before .before .before .before .before .before .before .args .nulls)) (now (c .before .before .before .before .before .before .before .before .before .before .before .before .before .before .args .places)) (c .before .before .before .before .before .before .before .before .before .before .before .before .before .before .args .count) (sym (c .before .before .before .before .before .before .before .before .before .fits-with .ensures) ∙ not-false _ (c .before .before .before .before .before .before .before .before .if1 .left)) _ (c .before .before .column-of .ensures) _ _ (c .before .before .before .open-record .ensures) _ (c .before .empty-state .ensures) (c .before .before .before .before .before .before .clear .ensures)
+returns-2 c =
+    let b8 = c .before .before .before .before .before .before .before .before in let b9 = b8 .before in
+    let b14 = b9 .before .before .before .before .before in
+    ended-finished (b14 .args .s) (now (b14 .args .views)) (now (b14 .args .bytes)) (now (b14 .args .nulls)) (now (b14 .args .places))
+    (b14 .args .count) (sym (b9 .fits-with .ensures) ∙ not-false _ (b8 .if1 .left)) _ (c .before .before .column-of .ensures) _ _
+    (c .before .before .before .open-record .ensures) _ (c .before .empty-state .ensures)
+    (c .before .before .before .before .before .before .clear .ensures)
 
 pub finish-with-spec : {M : Type 1} → statement M
 finish-with-spec =

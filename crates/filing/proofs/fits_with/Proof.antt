@@ -20,7 +20,8 @@ unfolding roomOfBlocks
 state-fits-requires c κs = rw (c .before .blocks-room .ensures) (omega arith)
 
 returns : tie.Need-returns
-returns c = c .state-fits .ensures ∙ (λ i. fitsRooms (c .before .before .before .before .args .s) (c .before .before .before .rows-room .ensures i) (c .before .before .blocks-room .ensures i) (c .before .bytes-room .ensures i))
+returns c = c .state-fits .ensures ∙ (λ i. fitsRooms (c .before .before .before .before .args .s) (c .before .before .before .rows-room .ensures i)
+    (c .before .before .blocks-room .ensures i) (c .before .bytes-room .ensures i))
 
 pub fits-with-spec : {M : Type 1} → statement M
 fits-with-spec =

@@ -83,7 +83,26 @@ use Rattle.filing.proofs.follow.Statement as stated
 use Rattle.filing.proofs.follow.Code as code
 
 abbrev stayed : Stays (F.ended .signature .params) (F.ended .kept)
-stayed = (stay-none (λ _. S.the-row) yes, (stay-none-slice (0 ∷ []) tt (plain (λ _. u8)) yes, (stay-none-slice (1 ∷ []) tt (plain (λ _. u8)) yes, (stay-none-slice (2 ∷ []) tt (plain (λ _. T.the-row)) yes, (stay-none-slice (3 ∷ []) tt (plain (λ _. u32)) yes, (stay-none-slice (4 ∷ []) tt (plain (λ _. u8)) yes, (stay-none (λ _. Q.the-row) yes, tt)))))))
+stayed = (
+  stay-none (λ _. S.the-row) yes,
+  (
+    stay-none-slice (0 ∷ []) tt (plain (λ _. u8)) yes,
+    (
+      stay-none-slice (1 ∷ []) tt (plain (λ _. u8)) yes,
+      (
+        stay-none-slice (2 ∷ []) tt (plain (λ _. T.the-row)) yes,
+        (
+          stay-none-slice (3 ∷ []) tt (plain (λ _. u32)) yes,
+          (
+            stay-none-slice (4 ∷ []) tt
+                (plain (λ _. u8)) yes,
+            (stay-none (λ _. Q.the-row) yes, tt),
+          ),
+        ),
+      ),
+    ),
+  ),
+)
 
 -- the types of the locals
 abbrev ty0 : Ty
@@ -99,7 +118,8 @@ abbrev ty3 : Ty
 ty3 = spell Mir.table (tyStruct (38 ∷ 91 ∷ 93 ∷ []) (tcons (tyRef (named 1) imm (tyInt w8)) (tcons (tyInt w64) tnil)))
 
 abbrev ty4 : Ty
-ty4 = spell Mir.table (tyStruct (38 ∷ 91 ∷ 93 ∷ []) (tcons (tyRef (named 2) imm (tyNamed (99 ∷ 111 ∷ 108 ∷ 117 ∷ 109 ∷ 110 ∷ 58 ∷ 58 ∷ 66 ∷ 108 ∷ 111 ∷ 99 ∷ 107 ∷ [], []))) (tcons (tyInt w64) tnil)))
+ty4 = spell Mir.table (tyStruct (38 ∷ 91 ∷ 93 ∷ [])
+    (tcons (tyRef (named 2) imm (tyNamed (99 ∷ 111 ∷ 108 ∷ 117 ∷ 109 ∷ 110 ∷ 58 ∷ 58 ∷ 66 ∷ 108 ∷ 111 ∷ 99 ∷ 107 ∷ [], []))) (tcons (tyInt w64) tnil)))
 
 abbrev ty5 : Ty
 ty5 = spell Mir.table (tyStruct (38 ∷ 91 ∷ 93 ∷ []) (tcons (tyRef (named 3) imm (tyInt w32)) (tcons (tyInt w64) tnil)))
@@ -142,17 +162,25 @@ module _ {M : Type 1} (𝓤 : URA M) (H : Heap 𝓤) (A : Atoms 𝓤) (mem : Mem
   abbrev Cturn : Contract 𝓤
   Cturn = tripleOf 𝓤 H A Cturnm.signature (Cturnm.spec 𝓤 H A mem run)
 
-module _ {M : Type 1} (𝓤 : URA M) (H : Heap 𝓤) (A : Atoms 𝓤) (W : Given 𝓤 H A) (mem : Memory → SProp 𝓤) (run : Routine → Fun 𝓤) (κ0 κ1 κ2 κ3 κ4 : Lft) (q0 q1 q2 q3 q4 : Share)
+module _ {M : Type 1} (𝓤 : URA M) (H : Heap 𝓤) (A : Atoms 𝓤) (W : Given 𝓤 H A) (mem : Memory → SProp 𝓤) (run : Routine → Fun 𝓤) (κ0 κ1 κ2 κ3 κ4 : Lft)
+    (q0 q1 q2 q3 q4 : Share)
     (s : State) (views : RefT (List ℕ)) (bytes : RefT (List ℕ)) (table : RefT (List Block)) (places : RefT (List ℕ)) (x : RefT (List ℕ)) (first : Quest)
-    (g-s : Is S.the-row s (LL.vals S.the-type S′.the-laws s)) (g-views : Room u8 (length (now views))) (g-bytes : Room u8 (length (now bytes))) (g-table : Room T.the-row (length (now table))) (g-places : Room u32 (length (now places))) (g-x : Room u8 (length (now x))) (g-first : Is Q.the-row first (LL.vals Q.the-type Q′.the-laws first)) where
+    (g-s : Is S.the-row s (LL.vals S.the-type S′.the-laws s)) (g-views : Room u8 (length (now views))) (g-bytes : Room u8 (length (now bytes)))
+    (g-table : Room T.the-row (length (now table))) (g-places : Room u32 (length (now places))) (g-x : Room u8 (length (now x)))
+    (g-first : Is Q.the-row first (LL.vals Q.the-type Q′.the-laws first)) where
   abbrev a : State × (RefT (List ℕ) × (RefT (List ℕ) × (RefT (List Block) × (RefT (List ℕ) × (RefT (List ℕ) × (Quest × Unit {0}))))))
   a = (s, (views, (bytes, (table, (places, (x, (first, tt)))))))
 
   abbrev at : Vals F.signature (κ0, (κ1, (κ2, (κ3, (κ4, tt)))))
-  at = (LL.vals S.the-type S′.the-laws s, (slice-vals views, (slice-vals bytes, (slice-vals table, (slice-vals places, (slice-vals x, (LL.vals Q.the-type Q′.the-laws first, tt)))))))
+  at = (
+    LL.vals S.the-type S′.the-laws s,
+    (slice-vals views, (slice-vals bytes, (slice-vals table, (slice-vals places, (slice-vals x, (LL.vals Q.the-type Q′.the-laws first, tt)))))),
+  )
 
   abbrev passed : List Val
-  passed = LL.val S.the-type S′.the-laws s ∷ sliceVal (views .ptr) (length (now views)) ∷ sliceVal (bytes .ptr) (length (now bytes)) ∷ sliceVal (table .ptr) (length (now table)) ∷ sliceVal (places .ptr) (length (now places)) ∷ sliceVal (x .ptr) (length (now x)) ∷ LL.val Q.the-type Q′.the-laws first ∷ []
+  passed = LL.val S.the-type S′.the-laws s ∷ sliceVal (views .ptr) (length (now views)) ∷ sliceVal (bytes .ptr) (length (now bytes)) ∷ sliceVal
+      (table .ptr) (length (now table)) ∷ sliceVal (places .ptr) (length (now places)) ∷ sliceVal (x .ptr) (length (now x)) ∷ LL.val Q.the-type
+      Q′.the-laws first ∷ []
 
   abbrev Post : Val → SProp 𝓤
   Post = walkOf 𝓤 H A F.ended stayed (F.clauses 𝓤 H A mem run) .post (((κ0, (κ1, (κ2, (κ3, (κ4, tt))))), (q0, (q1, (q2, (q3, (q4, tt))))), tt, a, at), tt)
@@ -179,7 +207,8 @@ module _ {M : Type 1} (𝓤 : URA M) (H : Heap 𝓤) (A : Atoms 𝓤) (W : Given
   to1 q = (((κ0, (κ3, tt)), (q0, (q3, tt)), tt, a1 q, (slice-vals views, (slice-vals places, (vint w64 (q .place) ∷ [], tt)))), tt)
 
   abbrev Said1 : (q : Quest) (r1 : ℕ) → Type 0
-  Said1 q r1 = ((q .place) < length (now places) → (getD (now places) (q .place) 0 ≡ 0 → ⊥) → 16 * (getD (now places) (q .place) 0 - 1) + 16 ≤ length (now views) → r1 ≡ blockOf (viewAt (now views) (getD (now places) (q .place) 0 - 1)))
+  Said1 q r1 = ((q .place) < length (now places) → (getD (now places) (q .place) 0 ≡ 0 → ⊥) → 16 * (getD (now places) (q .place) 0 - 1) + 16 ≤ length
+      (now views) → r1 ≡ blockOf (viewAt (now views) (getD (now places) (q .place) 0 - 1)))
 
   abbrev a2 : (q : Quest) (r1 : ℕ) (u1 : Val) → RefT (List Block) × (ℕ × (Block × Unit {0}))
   a2 q r1 u1 = (table, (r1, ((block 0 0), tt)))
@@ -190,16 +219,34 @@ module _ {M : Type 1} (𝓤 : URA M) (H : Heap 𝓤) (A : Atoms 𝓤) (W : Given
   abbrev Said2 : (q : Quest) (r1 : ℕ) (u1 : Val) (r2 : Block) → Type 0
   Said2 q r1 u1 r2 = r2 ≡ getD (now table) r1 (block 0 0)
 
-  abbrev a3 : (q : Quest) (r1 : ℕ) (u1 : Val) (r2 : Block) (u2 : Val) → State × (RefT (List ℕ) × (RefT (List ℕ) × (RefT (List ℕ) × (RefT (List ℕ) × (Quest × (Block × Unit {0}))))))
+  abbrev a3 : (q : Quest) (r1 : ℕ) (u1 : Val) (r2 : Block) (u2 : Val) → State
+      × (RefT (List ℕ) × (RefT (List ℕ) × (RefT (List ℕ) × (RefT (List ℕ) × (Quest × (Block × Unit {0}))))))
   a3 q r1 u1 r2 u2 = (s, (views, (bytes, (places, (x, (q, (r2, tt)))))))
 
   abbrev to3 : (q : Quest) (r1 : ℕ) (u1 : Val) (r2 : Block) (u2 : Val) → Cturn 𝓤 H A mem run .Ghost
-  to3 q r1 u1 r2 u2 = (((κ0, (κ1, (κ3, (κ4, tt)))), (q0, (q1, (q3, (q4, tt)))), tt, a3 q r1 u1 r2 u2, (LL.vals S.the-type S′.the-laws s, (slice-vals views, (slice-vals bytes, (slice-vals places, (slice-vals x, (LL.vals Q.the-type Q′.the-laws q, (u2 ∷ [], tt)))))))), tt)
+  to3 q r1 u1 r2 u2 = (
+    (
+      (κ0, (κ1, (κ3, (κ4, tt)))),
+      (q0, (q1, (q3, (q4, tt)))),
+      tt,
+      a3 q r1 u1 r2 u2,
+      (
+        LL.vals S.the-type S′.the-laws s,
+        (slice-vals views, (slice-vals bytes, (slice-vals places, (slice-vals x, (LL.vals Q.the-type Q′.the-laws q, (u2 ∷ [], tt)))))),
+      ),
+    ),
+    tt,
+  )
 
   abbrev Said3 : (q : Quest) (r1 : ℕ) (u1 : Val) (r2 : Block) (u2 : Val) (r3 : Quest) → Type 0
-  Said3 q r1 u1 r2 u2 r3 = (0 < q .left → r3 .left < q .left) × ((ss ns : List ℕ) → Ready s (now views) ss ns → allBlocks s ≤ blockLimit → 12 < length (now x) → q .place < length (now places) → 0 < q .left → ((getD (now places) (q .place) 0 ≡ 0 → ⊥) → getD (now places) (q .place) 0 - 1 < s .rows → Names (now views) (getD (now places) (q .place) 0 - 1) r2 ss ns) → (rest (now places) (showsRow s (bare (now views) (now bytes) ss ns) (now x)) r3 ≡ rest (now places) (showsRow s (bare (now views) (now bytes) ss ns) (now x)) q) × (0 < r3 .left → r3 .place < length (now places)))
+  Said3 q r1 u1 r2 u2 r3 = (0 < q .left → r3 .left < q .left) × ((ss ns : List ℕ) → Ready s (now views) ss ns → allBlocks s ≤ blockLimit
+      → 12 < length (now x) → q .place < length (now places) → 0 < q .left → ((getD (now places) (q .place) 0 ≡ 0 → ⊥) → getD (now places) (q .place)
+      0 - 1 < s .rows → Names (now views) (getD (now places) (q .place) 0 - 1) r2 ss ns)
+      → (rest (now places) (showsRow s (bare (now views) (now bytes) ss ns) (now x)) r3
+      ≡ rest (now places) (showsRow s (bare (now views) (now bytes) ss ns) (now x)) q) × (0 < r3 .left → r3 .place < length (now places)))
 
-  module _ (𝓣 : Tables 𝓤 H) (known1 : Triple 𝓤 (𝓣 .C #Casks) (Casks 𝓤 H A mem run)) (known2 : Triple 𝓤 (𝓣 .C #Cblockor) (Cblockor 𝓤 H A mem run)) (known3 : Triple 𝓤 (𝓣 .C #Cturn) (Cturn 𝓤 H A mem run)) (l0 l1 l2 l3 l4 l5 l6 l7 l8 l9 l10 l11 l12 l13 : ℕ) where
+  module _ (𝓣 : Tables 𝓤 H) (known1 : Triple 𝓤 (𝓣 .C #Casks) (Casks 𝓤 H A mem run)) (known2 : Triple 𝓤 (𝓣 .C #Cblockor) (Cblockor 𝓤 H A mem run))
+      (known3 : Triple 𝓤 (𝓣 .C #Cturn) (Cturn 𝓤 H A mem run)) (l0 l1 l2 l3 l4 l5 l6 l7 l8 l9 l10 l11 l12 l13 : ℕ) where
     abbrev C : Calls 𝓤 H
     C = 𝓣 .C
 
@@ -207,14 +254,25 @@ module _ {M : Type 1} (𝓤 : URA M) (H : Heap 𝓤) (A : Atoms 𝓤) (W : Given
     Λ = 𝓣 .Λ
 
     abbrev En : Env 𝓤 H
-    En = (ty0, l0) ∷ (ty1, l1) ∷ (ty2, l2) ∷ (ty3, l3) ∷ (ty4, l4) ∷ (ty5, l5) ∷ (ty6, l6) ∷ (ty7, l7) ∷ (ty7, l8) ∷ (ty8, l9) ∷ (ty9, l10) ∷ (ty7, l11) ∷ (ty10, l12) ∷ (ty9, l13) ∷ []
+    En = (ty0, l0) ∷ (ty1, l1) ∷ (ty2, l2) ∷ (ty3, l3) ∷ (ty4, l4) ∷ (ty5, l5) ∷ (ty6, l6) ∷ (ty7, l7) ∷ (ty7, l8) ∷ (ty8, l9) ∷ (ty9, l10)
+        ∷ (ty7, l11) ∷ (ty10, l12) ∷ (ty9, l13) ∷ []
 
     -- what stands at the loop's head
     abbrev At : Quest → List (Item 𝓤)
-    At q = ‵ (froom ty9 l13 0) ∷ ‵ (fdies ty9 l13) ∷ ‵ (froom ty10 l12 0) ∷ ‵ (fdies ty10 l12) ∷ ‵ (froom ty7 l11 0) ∷ ‵ (fdies ty7 l11) ∷ ‵ (froom ty9 l10 0) ∷ ‵ (fdies ty9 l10) ∷ ‵ (froom ty8 l9 0) ∷ ‵ (fdies ty8 l9) ∷ ‵ (fat fullShare Q′.mir l8 0 (LL.val Q.the-type Q′.the-laws q)) ∷ ‵ (fdies ty7 l8) ∷ ‵ (fat fullShare ty7 l7 0 (LL.val Q.the-type Q′.the-laws first)) ∷ ‵ (fdies ty7 l7) ∷ ‵ (fat fullShare ty6 l6 0 (sliceVal (x .ptr) (length (now x)))) ∷ ‵ (fdies ty6 l6) ∷ ‵ (fat fullShare ty5 l5 0 (sliceVal (places .ptr) (length (now places)))) ∷ ‵ (fdies ty5 l5) ∷ ‵ (fat fullShare ty4 l4 0 (sliceVal (table .ptr) (length (now table)))) ∷ ‵ (fdies ty4 l4) ∷ ‵ (fat fullShare ty3 l3 0 (sliceVal (bytes .ptr) (length (now bytes)))) ∷ ‵ (fdies ty3 l3) ∷ ‵ (fat fullShare ty2 l2 0 (sliceVal (views .ptr) (length (now views)))) ∷ ‵ (fdies ty2 l2) ∷ ‵ (fat fullShare ty1 l1 0 (LL.val S.the-type S′.the-laws s)) ∷ ‵ (fdies ty1 l1) ∷ ‵ (froom ty0 l0 0) ∷ ‵ (fdies ty0 l0) ∷ ‵ Own-x ∷ ‵ Own-places ∷ ‵ Own-table ∷ ‵ Own-bytes ∷ ‵ Own-views ∷ ‵ (flft κ4 q4) ∷ ‵ (flft κ3 q3) ∷ ‵ (flft κ2 q2) ∷ ‵ (flft κ1 q1) ∷ ‵ (flft κ0 q0) ∷ []
+    At q = ‵ (froom ty9 l13 0) ∷ ‵ (fdies ty9 l13) ∷ ‵ (froom ty10 l12 0) ∷ ‵ (fdies ty10 l12) ∷ ‵ (froom ty7 l11 0) ∷ ‵ (fdies ty7 l11) ∷ ‵
+        (froom ty9 l10 0) ∷ ‵ (fdies ty9 l10) ∷ ‵ (froom ty8 l9 0) ∷ ‵ (fdies ty8 l9) ∷ ‵ (fat fullShare Q′.mir l8 0 (LL.val Q.the-type Q′.the-laws
+        q)) ∷ ‵ (fdies ty7 l8) ∷ ‵ (fat fullShare ty7 l7 0 (LL.val Q.the-type Q′.the-laws first)) ∷ ‵ (fdies ty7 l7) ∷ ‵
+        (fat fullShare ty6 l6 0 (sliceVal (x .ptr) (length (now x)))) ∷ ‵ (fdies ty6 l6) ∷ ‵
+        (fat fullShare ty5 l5 0 (sliceVal (places .ptr) (length (now places)))) ∷ ‵ (fdies ty5 l5) ∷ ‵
+        (fat fullShare ty4 l4 0 (sliceVal (table .ptr) (length (now table)))) ∷ ‵ (fdies ty4 l4) ∷ ‵
+        (fat fullShare ty3 l3 0 (sliceVal (bytes .ptr) (length (now bytes)))) ∷ ‵ (fdies ty3 l3) ∷ ‵
+        (fat fullShare ty2 l2 0 (sliceVal (views .ptr) (length (now views)))) ∷ ‵ (fdies ty2 l2) ∷ ‵
+        (fat fullShare ty1 l1 0 (LL.val S.the-type S′.the-laws s)) ∷ ‵ (fdies ty1 l1) ∷ ‵ (froom ty0 l0 0) ∷ ‵ (fdies ty0 l0) ∷ ‵ Own-x ∷ ‵ Own-places
+        ∷ ‵ Own-table ∷ ‵ Own-bytes ∷ ‵ Own-views ∷ ‵ (flft κ4 q4) ∷ ‵ (flft κ3 q3) ∷ ‵ (flft κ2 q2) ∷ ‵ (flft κ1 q1) ∷ ‵ (flft κ0 q0) ∷ []
 
     abbrev Good : Quest → Type 0
-    Good q = Is Q.the-row q (LL.vals Q.the-type Q′.the-laws q) × (Going s (now views) (now bytes) (now table) (now places) (now x) first → Going s (now views) (now bytes) (now table) (now places) (now x) q)
+    Good q = Is Q.the-row q (LL.vals Q.the-type Q′.the-laws q) × (Going s (now views) (now bytes) (now table) (now places) (now x) first
+        → Going s (now views) (now bytes) (now table) (now places) (now x) q)
 
     -- the invariant, where k places are left
     abbrev Holding : ℕ → Quest → Type 0
@@ -231,7 +289,8 @@ module _ {M : Type 1} (𝓤 : URA M) (H : Heap 𝓤) (A : Atoms 𝓤) (W : Given
     Left = afterBlock 𝓤 H (afterSeq 𝓤 H (Wp 𝓤 H C Λ En Mir.t-3 (atReturn 𝓤 H En Post)) (atReturn 𝓤 H En Post))
 
     held : (k : ℕ) (q : Quest) → Holding k q → ent 𝓤 (⋆ 𝓤 H A (At q)) (Inv k)
-    held k q h = via 𝓤 (guard 𝓤 (Holding k q) (⋆ 𝓤 H A (At q))) (guardI 𝓤 (Holding k q) (⋆ 𝓤 H A (At q)) h) (exI 𝓤 (λ (r : Quest). guard 𝓤 (Holding k r) (⋆ 𝓤 H A (At r))) q)
+    held k q h = via 𝓤 (guard 𝓤 (Holding k q) (⋆ 𝓤 H A (At q))) (guardI 𝓤 (Holding k q) (⋆ 𝓤 H A (At q)) h)
+        (exI 𝓤 (λ (r : Quest). guard 𝓤 (Holding k r) (⋆ 𝓤 H A (At r))) q)
 
     below : (k j : ℕ) (q : Quest) → j < k → Holding j q → ent 𝓤 (⋆ 𝓤 H A (At q)) (Below k)
     below k j q l h = via 𝓤 (Inv j) (held j q h) (via 𝓤 (guard 𝓤 (j < k) (Inv j)) (guardI 𝓤 (j < k) (Inv j) l) (exI 𝓤 (λ (i : ℕ). guard 𝓤 (i < k) (Inv i)) j))
@@ -242,7 +301,8 @@ module _ {M : Type 1} (𝓤 : URA M) (H : Heap 𝓤) (A : Atoms 𝓤) (W : Given
     unfolding afterTurn
     more q X h l k =
         let fsq = LL.owed Q.the-type Q′.the-laws q _ (h .0) in qed W (At q) ∵ exec ! C Λ En Mir.turn-1 (anyQ (afterTurn 𝓤 H X Left)) $
-        assigns ! (bin ! (lit ! tt) (load ! (from ! (fld ! refl (stop !))) (look-in ! 10 (sub ! 1 refl (whole !)))) tt) (from ! (stop !)) (init ! 2 refl (tt, tt)) $
+        assigns ! (bin ! (lit ! tt) (load ! (from ! (fld ! refl (stop !))) (look-in ! 10 (sub ! 1 refl (whole !)))) tt) (from ! (stop !))
+        (init ! 2 refl (tt, tt)) $
         rewrite ! 2 (λ (c : Bool). ‵ (fat fullShare tyBool l12 0 (vbool c))) (holds (ltb 0 (q .left)) (lt→ltb 0 (q .left) l)) refl $
         stays ! (load ! (from ! (stop !)) (look ! 2 refl)) $ nothing ! $
         owned ! usize (Is usize) (uint-makes 𝓤 H A W w64) (q .place) _ (refl, (fsq .0 .1)) $ fjoin ! $ move ! (30 ∷ []) $
@@ -250,26 +310,37 @@ module _ {M : Type 1} (𝓤 : URA M) (H : Heap 𝓤) (A : Atoms 𝓤) (W : Given
         move ! (0 ∷ 2 ∷ []) $ fjoin ! $ move ! (33 ∷ []) $
         use1 W (‵ Own-views ⊛ ‵ Own-views) (shr-slice-copy 𝓤 H A W (named 0) κ0 u8 .twice views (slice-vals views)) $ split ! $ move ! (0 ∷ 2 ∷ []) $
         fjoin ! $ nothing ! $ move ! (36 ∷ 0 ∷ []) $ join ! $ move ! (38 ∷ 0 ∷ []) $ join ! $ join ! $
-        use1 W (raw (Casks 𝓤 H A mem run .pre (to1 q))) (asks 𝓤 (onEntry 𝓤 H A Casksm.signature (κ0, (κ3, tt)) (q0, (q3, tt)) (a1 q) (slice-vals views, (slice-vals places, (vint w64 (q .place) ∷ [], tt))))) $
-        calls-at ! (fmOf 𝓤 H (W .laws) 𝓣) (Casks 𝓤 H A mem run) known1 (to1 q) (and-then ! (load ! (from ! (stop !)) (look ! 25 refl)) (and-then ! (load ! (from ! (stop !)) (look ! 19 refl)) (and-then ! (load ! (from ! (fld ! refl (stop !))) (look-in ! 13 (sub ! 0 refl (whole !)))) (no-more !)))) (λ u1.
-        use1 W (later (some (λ (r1 : ℕ). ((‵ (flft κ0 q0) ⊛ ‵ (flft κ3 q3) ⊛ ‵ ftrue) ⊛ ‵ (usize .own r1 (u1 ∷ []))) ⊛ raw (ensured 𝓤 H A Casksm.ended (Casksm.clauses 𝓤 H A mem run) (κ0, (κ3, tt)) (a1 q) tt r1)))) (id⊢ 𝓤 _) $
+        use1 W (raw (Casks 𝓤 H A mem run .pre (to1 q))) (asks 𝓤 (onEntry 𝓤 H A Casksm.signature (κ0, (κ3, tt)) (q0, (q3, tt)) (a1 q)
+        (slice-vals views, (slice-vals places, (vint w64 (q .place) ∷ [], tt))))) $
+        calls-at ! (fmOf 𝓤 H (W .laws) 𝓣) (Casks 𝓤 H A mem run) known1 (to1 q) (and-then ! (load ! (from ! (stop !)) (look ! 25 refl))
+        (and-then ! (load ! (from ! (stop !)) (look ! 19 refl)) (and-then ! (load ! (from ! (fld ! refl (stop !)))
+        (look-in ! 13 (sub ! 0 refl (whole !)))) (no-more !)))) (λ u1.
+        use1 W (later (some (λ (r1 : ℕ). ((‵ (flft κ0 q0) ⊛ ‵ (flft κ3 q3) ⊛ ‵ ftrue) ⊛ ‵ (usize .own r1 (u1 ∷ []))) ⊛ raw (ensured 𝓤 H A Casksm.ended
+        (Casksm.clauses 𝓤 H A mem run) (κ0, (κ3, tt)) (a1 q) tt r1)))) (id⊢ 𝓤 _) $
         await ! tt $ pick ! (λ r1. split ! $ move ! (1 ∷ []) $
         use1 W (raw (fact 𝓤 (Said1 q r1))) (exE 𝓤 _ (λ ws. snd∗ 𝓤 (sem 𝓤 H A (lasts Casksm.ended (κ0, (κ3, tt)) (a1 q) ws)) (fact 𝓤 (Said1 q r1)))) $
         heard ! (Said1 q r1) (λ e1. split ! $ move ! (1 ∷ []) $ peeks ! usize (Is usize) (shows 𝓤 H A usize) r1 (u1 ∷ []) (λ gr1.
         land ! (from ! (stop !)) (init ! 12 refl (uint-lawful 𝓤 H A W w64 .typed r1 _ gr1 .0)) $
         rewrite ! 12 (λ (w : Val). ‵ (fat fullShare (tyInt w64) l9 0 w)) (ap only (gr1 .0)) refl $ drop ! $ split ! $ move ! (1 ∷ []) $ split ! $
         move ! (1 ∷ []) $ drop ! $
-        assigns ! (agg ! (and-then ! (lit ! tt) (and-then ! (lit ! tt) (no-more !)))) (from ! (stop !)) (init ! 4 refl (LL.lawful T.the-type T′.the-laws 𝓤 H A W .typed (block 0 0) _ (LL.owes T.the-type T′.the-laws (block 0 0) ((refl, (lit< tt)), ((refl, (lit< tt)), tt))) .0)) $
+        assigns ! (agg ! (and-then ! (lit ! tt) (and-then ! (lit ! tt) (no-more !)))) (from ! (stop !))
+        (init ! 4 refl (LL.lawful T.the-type T′.the-laws 𝓤 H A W .typed (block 0 0) _ (LL.owes T.the-type T′.the-laws (block 0 0)
+        ((refl, (lit< tt)), ((refl, (lit< tt)), tt))) .0)) $
         nothing ! $
-        owned ! T.the-row (Is T.the-row) (LL.makes T.the-type T′.the-plain 𝓤 H A) (block 0 0) _ (LL.owes T.the-type T′.the-laws (block 0 0) ((refl, (lit< tt)), ((refl, (lit< tt)), tt))) $
+        owned ! T.the-row (Is T.the-row) (LL.makes T.the-type T′.the-plain 𝓤 H A) (block 0 0) _ (LL.owes T.the-type T′.the-laws (block 0 0)
+        ((refl, (lit< tt)), ((refl, (lit< tt)), tt))) $
         fjoin ! $ owned ! usize (Is usize) (uint-makes 𝓤 H A W w64) r1 _ (refl, (gr1 .1)) $ fjoin ! $ move ! (34 ∷ []) $
         use1 W (‵ Own-table ⊛ ‵ Own-table) (shr-slice-copy 𝓤 H A W (named 2) κ2 T.the-row .twice table (slice-vals table)) $ split ! $
         move ! (0 ∷ 2 ∷ []) $ fjoin ! $ nothing ! $ move ! (38 ∷ 0 ∷ []) $ join ! $ join ! $
-        use1 W (raw (Cblockor 𝓤 H A mem run .pre (to2 q r1 u1))) (asks 𝓤 (onEntry 𝓤 H A Cblockorm.signature (κ2, tt) (q2, tt) (a2 q r1 u1) (slice-vals table, (vint w64 r1 ∷ [], (LL.vals T.the-type T′.the-laws (block 0 0), tt))))) $
-        calls-at ! (fmOf 𝓤 H (W .laws) 𝓣) (Cblockor 𝓤 H A mem run) known2 (to2 q r1 u1) (and-then ! (load ! (from ! (stop !)) (look ! 24 refl)) (and-then ! (load ! (from ! (stop !)) (look ! 14 refl)) (and-then ! (load ! (from ! (stop !)) (look ! 6 refl)) (no-more !)))) (λ u2.
-        use1 W (later (some (λ (r2 : Block). ((‵ (flft κ2 q2) ⊛ ‵ ftrue) ⊛ ‵ (T.the-row .own r2 (u2 ∷ []))) ⊛ raw (ensured 𝓤 H A Cblockorm.ended (Cblockorm.clauses 𝓤 H A mem run) (κ2, tt) (a2 q r1 u1) tt r2)))) (id⊢ 𝓤 _) $
+        use1 W (raw (Cblockor 𝓤 H A mem run .pre (to2 q r1 u1))) (asks 𝓤 (onEntry 𝓤 H A Cblockorm.signature (κ2, tt) (q2, tt) (a2 q r1 u1)
+        (slice-vals table, (vint w64 r1 ∷ [], (LL.vals T.the-type T′.the-laws (block 0 0), tt))))) $
+        calls-at ! (fmOf 𝓤 H (W .laws) 𝓣) (Cblockor 𝓤 H A mem run) known2 (to2 q r1 u1) (and-then ! (load ! (from ! (stop !)) (look ! 24 refl))
+        (and-then ! (load ! (from ! (stop !)) (look ! 14 refl)) (and-then ! (load ! (from ! (stop !)) (look ! 6 refl)) (no-more !)))) (λ u2.
+        use1 W (later (some (λ (r2 : Block). ((‵ (flft κ2 q2) ⊛ ‵ ftrue) ⊛ ‵ (T.the-row .own r2 (u2 ∷ []))) ⊛ raw (ensured 𝓤 H A Cblockorm.ended
+        (Cblockorm.clauses 𝓤 H A mem run) (κ2, tt) (a2 q r1 u1) tt r2)))) (id⊢ 𝓤 _) $
         await ! tt $ pick ! (λ r2. split ! $ move ! (1 ∷ []) $
-        use1 W (raw (fact 𝓤 (Said2 q r1 u1 r2))) (exE 𝓤 _ (λ ws. snd∗ 𝓤 (sem 𝓤 H A (lasts Cblockorm.ended (κ2, tt) (a2 q r1 u1) ws)) (fact 𝓤 (Said2 q r1 u1 r2)))) $
+        use1 W (raw (fact 𝓤 (Said2 q r1 u1 r2))) (exE 𝓤 _ (λ ws. snd∗ 𝓤 (sem 𝓤 H A (lasts Cblockorm.ended (κ2, tt) (a2 q r1 u1) ws))
+        (fact 𝓤 (Said2 q r1 u1 r2)))) $
         heard ! (Said2 q r1 u1 r2) (λ e2. split ! $ move ! (1 ∷ []) $ peeks ! T.the-row (Is T.the-row) (shows 𝓤 H A T.the-row) r2 (u2 ∷ []) (λ gr2.
         land ! (from ! (stop !)) (init ! 13 refl (LL.lawful T.the-type T′.the-laws 𝓤 H A W .typed r2 _ gr2 .0)) $ drop ! $ split ! $
         move ! (1 ∷ []) $ drop ! $ nothing ! $ owned ! T.the-row (Is T.the-row) (LL.makes T.the-type T′.the-plain 𝓤 H A) r2 _ gr2 $ fjoin ! $
@@ -282,36 +353,65 @@ module _ {M : Type 1} (𝓤 : URA M) (H : Heap 𝓤) (A : Atoms 𝓤) (W : Given
         split ! $ move ! (0 ∷ 2 ∷ []) $ fjoin ! $ owned ! S.the-row (Is S.the-row) (LL.makes S.the-type S′.the-plain 𝓤 H A) s _ g-s $ fjoin ! $
         nothing ! $ move ! (38 ∷ 0 ∷ []) $ join ! $ move ! (8 ∷ 0 ∷ []) $ join ! $ move ! (37 ∷ 0 ∷ []) $ join ! $ move ! (8 ∷ 0 ∷ []) $ join ! $
         join ! $
-        use1 W (raw (Cturn 𝓤 H A mem run .pre (to3 q r1 u1 r2 u2))) (asks 𝓤 (onEntry 𝓤 H A Cturnm.signature (κ0, (κ1, (κ3, (κ4, tt)))) (q0, (q1, (q3, (q4, tt)))) (a3 q r1 u1 r2 u2) (LL.vals S.the-type S′.the-laws s, (slice-vals views, (slice-vals bytes, (slice-vals places, (slice-vals x, (LL.vals Q.the-type Q′.the-laws q, (u2 ∷ [], tt))))))))) $
-        calls-at ! (fmOf 𝓤 H (W .laws) 𝓣) (Cturn 𝓤 H A mem run) known3 (to3 q r1 u1 r2 u2) (and-then ! (load ! (from ! (stop !)) (look ! 31 refl)) (and-then ! (load ! (from ! (stop !)) (look ! 29 refl)) (and-then ! (load ! (from ! (stop !)) (look ! 27 refl)) (and-then ! (load ! (from ! (stop !)) (look ! 23 refl)) (and-then ! (load ! (from ! (stop !)) (look ! 21 refl)) (and-then ! (load ! (from ! (stop !)) (look ! 17 refl)) (and-then ! (load ! (from ! (stop !)) (look ! 13 refl)) (no-more !)))))))) (λ u3.
-        use1 W (later (some (λ (r3 : Quest). ((‵ (flft κ0 q0) ⊛ ‵ (flft κ1 q1) ⊛ ‵ (flft κ3 q3) ⊛ ‵ (flft κ4 q4) ⊛ ‵ ftrue) ⊛ ‵ (Q.the-row .own r3 (u3 ∷ []))) ⊛ raw (ensured 𝓤 H A Cturnm.ended (Cturnm.clauses 𝓤 H A mem run) (κ0, (κ1, (κ3, (κ4, tt)))) (a3 q r1 u1 r2 u2) tt r3)))) (id⊢ 𝓤 _) $
+        use1 W (raw (Cturn 𝓤 H A mem run .pre (to3 q r1 u1 r2 u2))) (asks 𝓤 (onEntry 𝓤 H A Cturnm.signature (κ0, (κ1, (κ3, (κ4, tt))))
+        (q0, (q1, (q3, (q4, tt)))) (a3 q r1 u1 r2 u2) (
+          LL.vals S.the-type S′.the-laws s,
+          (slice-vals views, (slice-vals bytes, (slice-vals places, (slice-vals x, (LL.vals Q.the-type Q′.the-laws q, (u2 ∷ [], tt)))))),
+        ))) $
+        calls-at ! (fmOf 𝓤 H (W .laws) 𝓣) (Cturn 𝓤 H A mem run) known3 (to3 q r1 u1 r2 u2) (and-then ! (load ! (from ! (stop !)) (look ! 31 refl))
+        (and-then ! (load ! (from ! (stop !)) (look ! 29 refl)) (and-then ! (load ! (from ! (stop !)) (look ! 27 refl))
+        (and-then ! (load ! (from ! (stop !)) (look ! 23 refl)) (and-then ! (load ! (from ! (stop !)) (look ! 21 refl))
+        (and-then ! (load ! (from ! (stop !)) (look ! 17 refl)) (and-then ! (load ! (from ! (stop !)) (look ! 13 refl)) (no-more !)))))))) (λ u3.
+        use1 W (later (some (λ (r3 : Quest). ((‵ (flft κ0 q0) ⊛ ‵ (flft κ1 q1) ⊛ ‵ (flft κ3 q3) ⊛ ‵ (flft κ4 q4) ⊛ ‵ ftrue) ⊛ ‵
+        (Q.the-row .own r3 (u3 ∷ []))) ⊛ raw (ensured 𝓤 H A Cturnm.ended (Cturnm.clauses 𝓤 H A mem run) (κ0, (κ1, (κ3, (κ4, tt))))
+        (a3 q r1 u1 r2 u2) tt r3)))) (id⊢ 𝓤 _) $
         await ! tt $ pick ! (λ r3. split ! $ move ! (1 ∷ []) $
-        use1 W (raw (fact 𝓤 (Said3 q r1 u1 r2 u2 r3))) (exE 𝓤 _ (λ ws. snd∗ 𝓤 (sem 𝓤 H A (lasts Cturnm.ended (κ0, (κ1, (κ3, (κ4, tt)))) (a3 q r1 u1 r2 u2) ws)) (fact 𝓤 (Said3 q r1 u1 r2 u2 r3)))) $
+        use1 W (raw (fact 𝓤 (Said3 q r1 u1 r2 u2 r3)))
+        (exE 𝓤 _ (λ ws. snd∗ 𝓤 (sem 𝓤 H A (lasts Cturnm.ended (κ0, (κ1, (κ3, (κ4, tt)))) (a3 q r1 u1 r2 u2) ws)) (fact 𝓤 (Said3 q r1 u1 r2 u2 r3)))) $
         heard ! (Said3 q r1 u1 r2 u2 r3) (λ e3. split ! $ move ! (1 ∷ []) $
         peeks ! Q.the-row (Is Q.the-row) (shows 𝓤 H A Q.the-row) r3 (u3 ∷ []) (λ gr3.
         land ! (from ! (stop !)) (init ! 12 refl (LL.lawful Q.the-type Q′.the-laws 𝓤 H A W .typed r3 _ gr3 .0)) $ drop ! $ split ! $
         move ! (1 ∷ []) $ split ! $ move ! (1 ∷ []) $ split ! $ move ! (1 ∷ []) $ split ! $ move ! (1 ∷ []) $ drop ! $
-        assigns-last ! (of-opd ! (load ! (from ! (stop !)) (look ! 14 refl))) (from ! (stop !)) (store ! 20 refl (LL.lawful Q.the-type Q′.the-laws 𝓤 H A W .typed r3 _ gr3 .0)) $
+        assigns-last ! (of-opd ! (load ! (from ! (stop !)) (look ! 14 refl))) (from ! (stop !)) (store ! 20 refl (LL.lawful Q.the-type Q′.the-laws 𝓤 H
+        A W .typed r3 _ gr3 .0)) $
         rewrite ! 20 (λ (w : Val). ‵ (fat fullShare Q′.mir l8 0 w)) (ap only (LL.tells Q.the-type Q′.the-laws r3 _ gr3)) refl $ forget ! 18 refl $
         forget ! 16 refl $ forget ! 14 refl $ forget ! 12 refl $ forget ! 10 refl $
-        keep ! (10 ∷ 11 ∷ 12 ∷ 13 ∷ 14 ∷ 15 ∷ 16 ∷ 17 ∷ 18 ∷ 19 ∷ 20 ∷ 21 ∷ 22 ∷ 23 ∷ 24 ∷ 25 ∷ 26 ∷ 27 ∷ 28 ∷ 29 ∷ 30 ∷ 31 ∷ 32 ∷ 33 ∷ 34 ∷ 35 ∷ 36 ∷ 37 ∷ 7 ∷ 6 ∷ 9 ∷ 5 ∷ 4 ∷ 0 ∷ 1 ∷ 8 ∷ 2 ∷ 3 ∷ []) $
-        by ! (k r3 (subst (Is Q.the-row r3) (LL.tells Q.the-type Q′.the-laws r3 _ gr3) gr3, λ g. going-on s (now views) (now bytes) (now table) (now places) (now x) q r3 r1 r2 l e1 e2 (e3 .1) (h .1 g)) (e3 .0 l))))))))))))))
+        keep ! (10 ∷ 11 ∷ 12 ∷ 13 ∷ 14 ∷ 15 ∷ 16 ∷ 17 ∷ 18 ∷ 19 ∷ 20 ∷ 21 ∷ 22 ∷ 23 ∷ 24 ∷ 25 ∷ 26 ∷ 27 ∷ 28 ∷ 29 ∷ 30 ∷ 31 ∷ 32 ∷ 33 ∷ 34 ∷ 35 ∷ 36
+        ∷ 37 ∷ 7 ∷ 6 ∷ 9 ∷ 5 ∷ 4 ∷ 0 ∷ 1 ∷ 8 ∷ 2 ∷ 3 ∷ []) $
+        by ! (k r3 (
+          subst (Is Q.the-row r3) (LL.tells Q.the-type Q′.the-laws r3 _ gr3) gr3,
+          λ g. going-on s (now views) (now bytes) (now table)
+              (now places) (now x) q r3 r1 r2 l e1 e2 (e3 .1) (h .1 g),
+        ) (e3 .0 l))))))))))))))
 
     -- none is left
     ends : (q : Quest) (X : SProp 𝓤) → Good q → q .left ≡ 0 → ent 𝓤 (⋆ 𝓤 H A (At q)) (Wp 𝓤 H C Λ En Mir.turn-1 (afterTurn 𝓤 H X Left))
     unfolding afterTurn
     ends q X h z =
         let fsq = LL.owed Q.the-type Q′.the-laws q _ (h .0) in qed W (At q) ∵ exec ! C Λ En Mir.turn-1 (anyQ (afterTurn 𝓤 H X Left)) $
-        assigns ! (bin ! (lit ! tt) (load ! (from ! (fld ! refl (stop !))) (look-in ! 10 (sub ! 1 refl (whole !)))) tt) (from ! (stop !)) (init ! 2 refl (tt, tt)) $
-        rewrite ! 2 (λ (c : Bool). ‵ (fat fullShare tyBool l12 0 (vbool c))) (fails (ltb 0 (q .left)) (λ c. absurd (lt-irrefl 0 (subst (λ (m : ℕ). 0 < m) z (ltb→lt 0 (q .left) c))))) refl $
+        assigns ! (bin ! (lit ! tt) (load ! (from ! (fld ! refl (stop !))) (look-in ! 10 (sub ! 1 refl (whole !)))) tt) (from ! (stop !))
+        (init ! 2 refl (tt, tt)) $
+        rewrite ! 2 (λ (c : Bool). ‵ (fat fullShare tyBool l12 0 (vbool c)))
+        (fails (ltb 0 (q .left)) (λ c. absurd (lt-irrefl 0 (subst (λ (m : ℕ). 0 < m) z (ltb→lt 0 (q .left) c))))) refl $
         leaves-loop ! (load ! (from ! (stop !)) (look ! 2 refl)) $ exec ! C Λ En Mir.t-3 (atRet En Post) $
-        assigns ! (of-opd ! (load ! (from ! (fld ! refl (stop !))) (look-in ! 10 (sub ! 2 refl (whole !))))) (from ! (stop !)) (init ! 26 refl (EL.lawful Z.the-type Z′.the-laws 𝓤 H A W tt .typed (q .found) _ (fsq .1 .1 .0) .0)) $
+        assigns ! (of-opd ! (load ! (from ! (fld ! refl (stop !))) (look-in ! 10 (sub ! 2 refl (whole !))))) (from ! (stop !))
+        (init ! 26 refl (EL.lawful Z.the-type Z′.the-laws 𝓤 H A W tt .typed (q .found) _ (fsq .1 .1 .0) .0)) $
         returns ! (look ! 26 refl) $ forget ! 2 refl $ forget ! 10 refl $ forget ! 12 refl $ forget ! 14 refl $ forget ! 16 refl $ forget ! 18 refl $
         forget ! 20 refl $ forget ! 22 refl $ forget ! 24 refl $ forget ! 26 refl $ move ! (26 ∷ 27 ∷ []) $ free1 ! $ move ! (24 ∷ 25 ∷ []) $
         free1 ! $ move ! (22 ∷ 23 ∷ []) $ free1 ! $ move ! (20 ∷ 21 ∷ []) $ free1 ! $ move ! (18 ∷ 19 ∷ []) $ free1 ! $ move ! (16 ∷ 17 ∷ []) $
         free1 ! $ move ! (14 ∷ 15 ∷ []) $ free1 ! $ move ! (12 ∷ 13 ∷ []) $ free1 ! $ move ! (10 ∷ 11 ∷ []) $ free1 ! $ move ! (8 ∷ 9 ∷ []) $
         free1 ! $ move ! (6 ∷ 7 ∷ []) $ free1 ! $ move ! (4 ∷ 5 ∷ []) $ free1 ! $ move ! (2 ∷ 3 ∷ []) $ free1 ! $ free1 ! $ free0 ! $
-        suffices ! _ (ends-at 𝓤 H A F.ended stayed (F.clauses 𝓤 H A mem run) W (((κ0, (κ1, (κ2, (κ3, (κ4, tt))))), (q0, (q1, (q2, (q3, (q4, tt))))), tt, a, at), tt) (EL.val Z.the-type Z′.the-laws (q .found)) (q .found) (tt, (tt, (tt, (tt, (tt, (tt, (tt, tt))))))) (tt, (tt, (tt, (tt, (tt, (tt, (tt, tt)))))))) $
+        suffices ! _ (ends-at 𝓤 H A F.ended stayed (F.clauses 𝓤 H A mem run) W (
+          (
+            (κ0, (κ1, (κ2, (κ3, (κ4, tt))))),
+            (q0, (q1, (q2, (q3, (q4, tt))))),
+            tt,
+            a,
+            at,
+          ),
+          tt,
+        ) (EL.val Z.the-type Z′.the-laws (q .found)) (q .found) (tt, (tt, (tt, (tt, (tt, (tt, (tt, tt)))))))
+        (tt, (tt, (tt, (tt, (tt, (tt, (tt, tt)))))))) $
         says ! (λ g. going-last s (now views) (now bytes) (now table) (now places) (now x) q (h .1 g) z) $ nothing ! $ move ! (6 ∷ 0 ∷ []) $ join ! $
         move ! (6 ∷ 0 ∷ []) $ join ! $ move ! (6 ∷ 0 ∷ []) $ join ! $ move ! (6 ∷ 0 ∷ []) $ join ! $ move ! (6 ∷ 0 ∷ []) $ join ! $ frame ! $
         nothing ! $ owned ! Q.the-row (Is Q.the-row) (LL.makes Q.the-type Q′.the-plain 𝓤 H A) first _ g-first $ fjoin ! $ move ! (1 ∷ 0 ∷ []) $
@@ -329,10 +429,14 @@ module _ {M : Type 1} (𝓤 : URA M) (H : Heap 𝓤) (A : Atoms 𝓤) (W : Given
     loops : (q : Quest) → Good q → ent 𝓤 (⋆ 𝓤 H A (At q)) (Wp 𝓤 H C Λ En (loop Mir.turn-1) Left)
     loops q h = via 𝓤 (Inv (q .left)) (held (q .left) q (refl, h)) (loop-rule 𝓤 H (W .laws) 𝓣 _<_ (Nat·lt-wfRel .wf) En Mir.turn-1 Left Inv turns (q .left))
 
-  walk : (𝓣 : Tables 𝓤 H) → Triple 𝓤 (𝓣 .C #Casks) (Casks 𝓤 H A mem run) → Triple 𝓤 (𝓣 .C #Cblockor) (Cblockor 𝓤 H A mem run) → Triple 𝓤 (𝓣 .C #Cturn) (Cturn 𝓤 H A mem run)
-      → ent 𝓤 (onEntry 𝓤 H A F.signature (κ0, (κ1, (κ2, (κ3, (κ4, tt))))) (q0, (q1, (q2, (q3, (q4, tt))))) a at) (WpFn 𝓤 H (𝓣 .C) (𝓣 .Λ) code.function passed Post)
+  walk : (𝓣 : Tables 𝓤 H) → Triple 𝓤 (𝓣 .C #Casks) (Casks 𝓤 H A mem run) → Triple 𝓤 (𝓣 .C #Cblockor) (Cblockor 𝓤 H A mem run)
+      → Triple 𝓤 (𝓣 .C #Cturn) (Cturn 𝓤 H A mem run)
+      → ent 𝓤 (onEntry 𝓤 H A F.signature (κ0, (κ1, (κ2, (κ3, (κ4, tt))))) (q0, (q1, (q2, (q3, (q4, tt))))) a at) (WpFn 𝓤 H (𝓣 .C) (𝓣 .Λ) code.function
+      passed Post)
   walk 𝓣 known1 known2 known3 =
-      qed W ((‵ (flft κ0 q0) ⊛ ‵ (flft κ1 q1) ⊛ ‵ (flft κ2 q2) ⊛ ‵ (flft κ3 q3) ⊛ ‵ (flft κ4 q4) ⊛ ‵ ftrue) ∷ ‵ (owns (S.the-row ∷ ShrSlice (named 0) κ0 u8 ∷ ShrSlice (named 1) κ1 u8 ∷ ShrSlice (named 2) κ2 T.the-row ∷ ShrSlice (named 3) κ3 u32 ∷ ShrSlice (named 4) κ4 u8 ∷ Q.the-row ∷ []) a at) ∷ []) ∵
+      qed W ((‵ (flft κ0 q0) ⊛ ‵ (flft κ1 q1) ⊛ ‵ (flft κ2 q2) ⊛ ‵ (flft κ3 q3) ⊛ ‵ (flft κ4 q4) ⊛ ‵ ftrue) ∷ ‵
+      (owns (S.the-row ∷ ShrSlice (named 0) κ0 u8 ∷ ShrSlice (named 1) κ1 u8 ∷ ShrSlice (named 2) κ2 T.the-row ∷ ShrSlice (named 3) κ3 u32
+      ∷ ShrSlice (named 4) κ4 u8 ∷ Q.the-row ∷ []) a at) ∷ []) ∵
       split ! $ move ! (1 ∷ []) $ split ! $ move ! (1 ∷ []) $ split ! $ move ! (1 ∷ []) $ split ! $ move ! (1 ∷ []) $ split ! $ move ! (1 ∷ []) $
       drop ! $ move ! (5 ∷ []) $ fsplit ! $ drop ! $ fsplit ! $ move ! (1 ∷ []) $ fsplit ! $ move ! (1 ∷ []) $ fsplit ! $ move ! (1 ∷ []) $
       fsplit ! $ move ! (1 ∷ []) $ fsplit ! $ move ! (1 ∷ []) $ fsplit ! $ drop ! $ drop ! $ enter ! (𝓣 .C) (𝓣 .Λ) code.function passed _ $
@@ -345,22 +449,64 @@ module _ {M : Type 1} (𝓤 : URA M) (H : Heap 𝓤) (A : Atoms 𝓤) (W : Given
       pass1 ! (init ! 16 refl (tt, (tt, (record { fits = g-places .0 }, tt)))) $
       pass1 ! (init ! 14 refl (tt, (tt, (record { fits = g-x .0 }, tt)))) $
       pass1 ! (init ! 12 refl (LL.lawful Q.the-type Q′.the-laws 𝓤 H A W .typed first _ g-first .0)) $ pass0 ! $
-      assigns ! (of-opd ! (load ! (from ! (stop !)) (look ! 12 refl))) (from ! (stop !)) (init ! 10 refl (LL.lawful Q.the-type Q′.the-laws 𝓤 H A W .typed first _ g-first .0)) $
+      assigns ! (of-opd ! (load ! (from ! (stop !)) (look ! 12 refl))) (from ! (stop !)) (init ! 10 refl (LL.lawful Q.the-type Q′.the-laws 𝓤 H A
+      W .typed first _ g-first .0)) $
       by ! (loops 𝓣 known1 known2 known3 l0 l1 l2 l3 l4 l5 l6 l7 l8 l9 l10 l11 l12 l13 first (g-first, λ g. g))))))))))))))))
 
 module _ {M : Type 1} (𝓤 : URA M) (H : Heap 𝓤) (A : Atoms 𝓤) (W : Given 𝓤 H A) (mem : Memory → SProp 𝓤) (run : Routine → Fun 𝓤) where
-  walks : (𝓣 : Tables 𝓤 H) → Triple 𝓤 (𝓣 .C #Casks) (Casks 𝓤 H A mem run) → Triple 𝓤 (𝓣 .C #Cblockor) (Cblockor 𝓤 H A mem run) → Triple 𝓤 (𝓣 .C #Cturn) (Cturn 𝓤 H A mem run)
+  walks : (𝓣 : Tables 𝓤 H) → Triple 𝓤 (𝓣 .C #Casks) (Casks 𝓤 H A mem run) → Triple 𝓤 (𝓣 .C #Cblockor) (Cblockor 𝓤 H A mem run)
+      → Triple 𝓤 (𝓣 .C #Cturn) (Cturn 𝓤 H A mem run)
       → Walks 𝓤 H A F.ended stayed (WpFn 𝓤 H (𝓣 .C) (𝓣 .Λ) code.function) (F.clauses 𝓤 H A mem run)
   walks 𝓣 known1 known2 known3 = walked 𝓤 H A F.ended stayed (F.clauses 𝓤 H A mem run) (WpFn 𝓤 H (𝓣 .C) (𝓣 .Λ) code.function)
       (λ κs. (LL.vals S.the-type S′.the-laws, (slice-vals, (slice-vals, (slice-vals, (slice-vals, (slice-vals, (LL.vals Q.the-type Q′.the-laws, tt))))))))
-      (λ κs. (LL.tells S.the-type S′.the-laws, (shr-slice-tells (named 0) (κs .0) u8, (shr-slice-tells (named 1) (κs .1 .0) u8, (shr-slice-tells (named 2) (κs .1 .1 .0) T.the-row, (shr-slice-tells (named 3) (κs .1 .1 .1 .0) u32, (shr-slice-tells (named 4) (κs .1 .1 .1 .1 .0) u8, (LL.tells Q.the-type Q′.the-laws, tt))))))))
-      (λ κs qs bounds a _ are. via 𝓤 _ (fst∗ 𝓤 _ (emp 𝓤)) (walk 𝓤 H A W mem run (κs .0) (κs .1 .0) (κs .1 .1 .0) (κs .1 .1 .1 .0) (κs .1 .1 .1 .1 .0) (qs .0) (qs .1 .0) (qs .1 .1 .0) (qs .1 .1 .1 .0) (qs .1 .1 .1 .1 .0) (a .0) (a .1 .0) (a .1 .1 .0) (a .1 .1 .1 .0) (a .1 .1 .1 .1 .0) (a .1 .1 .1 .1 .1 .0) (a .1 .1 .1 .1 .1 .1 .0)
-      (are .0) (are .1 .0 .0 .1) (are .1 .1 .0 .0 .1) (are .1 .1 .1 .0 .0 .1) (are .1 .1 .1 .1 .0 .0 .1) (are .1 .1 .1 .1 .1 .0 .0 .1) (are .1 .1 .1 .1 .1 .1 .0) 𝓣 known1 known2 known3))
+      (λ κs. (
+        LL.tells S.the-type S′.the-laws,
+        (
+          shr-slice-tells (named 0) (κs .0) u8,
+          (
+            shr-slice-tells (named 1) (κs .1 .0) u8,
+            (
+              shr-slice-tells (named 2) (κs .1 .1 .0) T.the-row,
+              (
+                shr-slice-tells (named 3) (κs .1 .1 .1 .0) u32,
+                (
+                  shr-slice-tells (named 4)
+                      (κs .1 .1 .1 .1 .0) u8,
+                  (LL.tells Q.the-type Q′.the-laws, tt),
+                ),
+              ),
+            ),
+          ),
+        ),
+      ))
+      (λ κs qs bounds a _ are. via 𝓤 _ (fst∗ 𝓤 _ (emp 𝓤)) (walk 𝓤 H A W mem run (κs .0) (κs .1 .0) (κs .1 .1 .0) (κs .1 .1 .1 .0) (κs .1 .1 .1 .1 .0)
+      (qs .0) (qs .1 .0) (qs .1 .1 .0) (qs .1 .1 .1 .0) (qs .1 .1 .1 .1 .0) (a .0) (a .1 .0) (a .1 .1 .0) (a .1 .1 .1 .0) (a .1 .1 .1 .1 .0)
+      (a .1 .1 .1 .1 .1 .0) (a .1 .1 .1 .1 .1 .1 .0)
+      (are .0) (are .1 .0 .0 .1) (are .1 .1 .0 .0 .1) (are .1 .1 .1 .0 .0 .1) (are .1 .1 .1 .1 .0 .0 .1) (are .1 .1 .1 .1 .1 .0 .0 .1)
+      (are .1 .1 .1 .1 .1 .1 .0) 𝓣 known1 known2 known3))
 
 meets : {M : Type 1} (𝓤 : URA M) (H : Heap 𝓤) (A : Atoms 𝓤) (W : Given 𝓤 H A) (mem : Memory → SProp 𝓤) (run : Routine → Fun 𝓤) (𝓣 : Tables 𝓤 H)
-    → Triple 𝓤 (𝓣 .C #Casks) (Casks 𝓤 H A mem run) → Triple 𝓤 (𝓣 .C #Cblockor) (Cblockor 𝓤 H A mem run) → Triple 𝓤 (𝓣 .C #Cturn) (Cturn 𝓤 H A mem run) → Meets 𝓤 H A F.signature (WpFn 𝓤 H (𝓣 .C) (𝓣 .Λ) code.function) (F.spec 𝓤 H A mem run)
-meets 𝓤 H A W mem run 𝓣 known1 known2 known3 = walk-meets 𝓤 H A F.ended stayed W
-    (goes-none 𝓤 H A W 5 (λ _. S.the-row) yes (λ κs x f. refl), (goes-none-slice 𝓤 H A W 5 (0 ∷ []) tt (plain (λ _. u8)) yes, (goes-none-slice 𝓤 H A W 5 (1 ∷ []) tt (plain (λ _. u8)) yes, (goes-none-slice 𝓤 H A W 5 (2 ∷ []) tt (plain (λ _. T.the-row)) yes, (goes-none-slice 𝓤 H A W 5 (3 ∷ []) tt (plain (λ _. u32)) yes, (goes-none-slice 𝓤 H A W 5 (4 ∷ []) tt (plain (λ _. u8)) yes, (goes-none 𝓤 H A W 5 (λ _. Q.the-row) yes (λ κs x f. refl), tt)))))))
+    → Triple 𝓤 (𝓣 .C #Casks) (Casks 𝓤 H A mem run) → Triple 𝓤 (𝓣 .C #Cblockor) (Cblockor 𝓤 H A mem run) → Triple 𝓤 (𝓣 .C #Cturn) (Cturn 𝓤 H A mem run)
+    → Meets 𝓤 H A F.signature (WpFn 𝓤 H (𝓣 .C) (𝓣 .Λ) code.function) (F.spec 𝓤 H A mem run)
+meets 𝓤 H A W mem run 𝓣 known1 known2 known3 = walk-meets 𝓤 H A F.ended stayed W (
+  goes-none 𝓤 H A W 5 (λ _. S.the-row) yes (λ κs x f. refl),
+  (
+    goes-none-slice 𝓤 H A W 5 (0 ∷ []) tt (plain (λ _. u8)) yes,
+    (
+      goes-none-slice 𝓤 H A W 5 (1 ∷ []) tt (plain (λ _. u8)) yes,
+      (
+        goes-none-slice 𝓤 H A W 5 (2 ∷ []) tt (plain (λ _. T.the-row)) yes,
+        (
+          goes-none-slice 𝓤 H A W 5 (3 ∷ []) tt (plain (λ _. u32)) yes,
+          (
+            goes-none-slice 𝓤 H A W 5 (4 ∷ []) tt (plain (λ _. u8)) yes,
+            (goes-none 𝓤 H A W 5 (λ _. Q.the-row) yes (λ κs x f. refl), tt),
+          ),
+        ),
+      ),
+    ),
+  ),
+)
     (F.clauses 𝓤 H A mem run) (WpFn 𝓤 H (𝓣 .C) (𝓣 .Λ) code.function) (WpFn-mono 𝓤 H (W .laws) 𝓣 code.function) (walks 𝓤 H A W mem run 𝓣 known1 known2 known3)
 
 pub follow-spec : {M : Type 1} → stated.statement M

@@ -1,4 +1,5 @@
--- `filing::get_value` meets its contract: a walk of its MIR, by hand. The record of the block that the view names is read, the records are counted, and the work is done by both. Assumes nothing.
+-- `filing::get_value` meets its contract: a walk of its MIR, by hand. The record of the block that the view names is read, the records are counted,
+-- and the work is done by both. Assumes nothing.
 use mathlib.Core.Path.{refl, _≡_, ap, _∙_}
 use Prim.Native.Nat.{ℕ, _<_, _^_, _≤_, _+_, _*_}
 use mathlib.Core.List.{[], _∷_, List}
@@ -66,7 +67,26 @@ use Rattle.filing.proofs.get_value.Statement as stated
 use Rattle.filing.proofs.get_value.Code as code
 
 abbrev stayed : Stays (F.ended .signature .params) (F.ended .kept)
-stayed = (stay-none (λ _. S.the-row) yes, (stay-none-slice (0 ∷ []) tt (plain (λ _. u8)) yes, (stay-none-slice (0 ∷ []) tt (plain (λ _. u8)) yes, (stay-none-slice (1 ∷ []) tt (plain (λ _. T.the-row)) yes, (stay-none-slice (2 ∷ []) tt (plain (λ _. u8)) yes, (stay-none-slice (3 ∷ []) tt (plain (λ _. u32)) yes, (stay-none (λ _. usize) yes, tt)))))))
+stayed = (
+  stay-none (λ _. S.the-row) yes,
+  (
+    stay-none-slice (0 ∷ []) tt (plain (λ _. u8)) yes,
+    (
+      stay-none-slice (0 ∷ []) tt (plain (λ _. u8)) yes,
+      (
+        stay-none-slice (1 ∷ []) tt (plain (λ _. T.the-row)) yes,
+        (
+          stay-none-slice (2 ∷ []) tt (plain (λ _. u8)) yes,
+          (
+            stay-none-slice (3 ∷ []) tt
+                (plain (λ _. u32)) yes,
+            (stay-none (λ _. usize) yes, tt),
+          ),
+        ),
+      ),
+    ),
+  ),
+)
 
 -- a call that asks nothing but what it is handed
 asks : {M : Type 1} (𝓤 : URA M) (P : SProp 𝓤) → ent 𝓤 P (sep 𝓤 P (emp 𝓤))
@@ -83,17 +103,24 @@ module _ {M : Type 1} (𝓤 : URA M) (H : Heap 𝓤) (A : Atoms 𝓤) (mem : Mem
   abbrev Cgetwith : Contract 𝓤
   Cgetwith = tripleOf 𝓤 H A Cgetwithm.signature (Cgetwithm.spec 𝓤 H A mem run)
 
-module _ {M : Type 1} (𝓤 : URA M) (H : Heap 𝓤) (A : Atoms 𝓤) (W : Given 𝓤 H A) (mem : Memory → SProp 𝓤) (run : Routine → Fun 𝓤) (κ0 κ1 κ2 κ3 : Lft) (q0 q1 q2 q3 : Share)
+module _ {M : Type 1} (𝓤 : URA M) (H : Heap 𝓤) (A : Atoms 𝓤) (W : Given 𝓤 H A) (mem : Memory → SProp 𝓤) (run : Routine → Fun 𝓤) (κ0 κ1 κ2 κ3 : Lft)
+    (q0 q1 q2 q3 : Share)
     (s : State) (views : RefT (List ℕ)) (bytes : RefT (List ℕ)) (table : RefT (List Block)) (nulls : RefT (List ℕ)) (places : RefT (List ℕ)) (r : ℕ)
-    (g-s : Is S.the-row s (LL.vals S.the-type S′.the-laws s)) (g-views : Room u8 (length (now views))) (g-bytes : Room u8 (length (now bytes))) (g-table : Room T.the-row (length (now table))) (g-nulls : Room u8 (length (now nulls))) (g-places : Room u32 (length (now places))) (g-r : r < 2 ^ 64) where
+    (g-s : Is S.the-row s (LL.vals S.the-type S′.the-laws s)) (g-views : Room u8 (length (now views))) (g-bytes : Room u8 (length (now bytes)))
+    (g-table : Room T.the-row (length (now table))) (g-nulls : Room u8 (length (now nulls))) (g-places : Room u32 (length (now places)))
+    (g-r : r < 2 ^ 64) where
   abbrev a : State × (RefT (List ℕ) × (RefT (List ℕ) × (RefT (List Block) × (RefT (List ℕ) × (RefT (List ℕ) × (ℕ × Unit {0}))))))
   a = (s, (views, (bytes, (table, (nulls, (places, (r, tt)))))))
 
   abbrev at : Vals F.signature (κ0, (κ1, (κ2, (κ3, tt))))
-  at = (LL.vals S.the-type S′.the-laws s, (slice-vals views, (slice-vals bytes, (slice-vals table, (slice-vals nulls, (slice-vals places, (vint w64 r ∷ [], tt)))))))
+  at = (
+    LL.vals S.the-type S′.the-laws s,
+    (slice-vals views, (slice-vals bytes, (slice-vals table, (slice-vals nulls, (slice-vals places, (vint w64 r ∷ [], tt)))))),
+  )
 
   abbrev passed : List Val
-  passed = LL.val S.the-type S′.the-laws s ∷ sliceVal (views .ptr) (length (now views)) ∷ sliceVal (bytes .ptr) (length (now bytes)) ∷ sliceVal (table .ptr) (length (now table)) ∷ sliceVal (nulls .ptr) (length (now nulls)) ∷ sliceVal (places .ptr) (length (now places)) ∷ vint w64 r ∷ []
+  passed = LL.val S.the-type S′.the-laws s ∷ sliceVal (views .ptr) (length (now views)) ∷ sliceVal (bytes .ptr) (length (now bytes)) ∷ sliceVal
+      (table .ptr) (length (now table)) ∷ sliceVal (nulls .ptr) (length (now nulls)) ∷ sliceVal (places .ptr) (length (now places)) ∷ vint w64 r ∷ []
 
   abbrev Post : Val → SProp 𝓤
   Post = walkOf 𝓤 H A F.ended stayed (F.clauses 𝓤 H A mem run) .post (((κ0, (κ1, (κ2, (κ3, tt)))), (q0, (q1, (q2, (q3, tt)))), tt, a, at), tt)
@@ -131,19 +158,45 @@ module _ {M : Type 1} (𝓤 : URA M) (H : Heap 𝓤) (A : Atoms 𝓤) (W : Given
   abbrev Said2 : (r1 : ℕ) (u1 : Val) (r2 : Block) → Type 0
   Said2 r1 u1 r2 = r2 ≡ getD (now table) r1 (block 0 0)
 
-  abbrev a3 : (r1 : ℕ) (u1 : Val) (r2 : Block) (u2 : Val) → State × (RefT (List ℕ) × (RefT (List ℕ) × (ℕ × (Block × (RefT (List ℕ) × (RefT (List ℕ) × (ℕ × Unit {0})))))))
+  abbrev a3 : (r1 : ℕ) (u1 : Val) (r2 : Block) (u2 : Val) → State
+      × (RefT (List ℕ) × (RefT (List ℕ) × (ℕ × (Block × (RefT (List ℕ) × (RefT (List ℕ) × (ℕ × Unit {0})))))))
   a3 r1 u1 r2 u2 = (s, (views, (bytes, ((length (now table)), (r2, (nulls, (places, (r, tt))))))))
 
   abbrev to3 : (r1 : ℕ) (u1 : Val) (r2 : Block) (u2 : Val) → Cgetwith 𝓤 H A mem run .Ghost
-  to3 r1 u1 r2 u2 = (((κ0, (κ2, (κ3, tt))), (q0, (q2, (q3, tt))), tt, a3 r1 u1 r2 u2, (LL.vals S.the-type S′.the-laws s, (slice-vals views, (slice-vals bytes, (vint w64 (length (now table)) ∷ [], (u2 ∷ [], (slice-vals nulls, (slice-vals places, (vint w64 r ∷ [], tt))))))))), tt)
+  to3 r1 u1 r2 u2 = (
+    (
+      (κ0, (κ2, (κ3, tt))),
+      (q0, (q2, (q3, tt))),
+      tt,
+      a3 r1 u1 r2 u2,
+      (
+        LL.vals S.the-type S′.the-laws s,
+        (
+          slice-vals views,
+          (
+            slice-vals bytes,
+            (
+              vint w64 (length (now table)) ∷ [],
+              (u2 ∷ [], (slice-vals nulls, (slice-vals places, (vint w64 r ∷ [], tt)))),
+            ),
+          ),
+        ),
+      ),
+    ),
+    tt,
+  )
 
   abbrev Said3 : (r1 : ℕ) (u1 : Val) (r2 : Block) (u2 : Val) (r3 : RefT (List ℕ)) → Type 0
-  Said3 r1 u1 r2 u2 r3 = ((t : List Block) → (length (now table)) ≡ length t → Sees (now views) r r2 t → now r3 ≡ getValue (filed s (now views) (now bytes) t (now nulls) (now places)) r)
+  Said3 r1 u1 r2 u2 r3 = ((t : List Block) → (length (now table)) ≡ length t → Sees (now views) r r2 t
+      → now r3 ≡ getValue (filed s (now views) (now bytes) t (now nulls) (now places)) r)
 
-  module _ (C : Calls 𝓤 H) (Λ : Loops 𝓤 H) (fm : FmC 𝓤 H (W .laws) C) (known1 : Triple 𝓤 (C #Cnamed) (Cnamed 𝓤 H A mem run)) (known2 : Triple 𝓤 (C #Cblockor) (Cblockor 𝓤 H A mem run)) (known3 : Triple 𝓤 (C #Cgetwith) (Cgetwith 𝓤 H A mem run)) where
+  module _ (C : Calls 𝓤 H) (Λ : Loops 𝓤 H) (fm : FmC 𝓤 H (W .laws) C) (known1 : Triple 𝓤 (C #Cnamed) (Cnamed 𝓤 H A mem run))
+      (known2 : Triple 𝓤 (C #Cblockor) (Cblockor 𝓤 H A mem run)) (known3 : Triple 𝓤 (C #Cgetwith) (Cgetwith 𝓤 H A mem run)) where
     walk : ent 𝓤 (onEntry 𝓤 H A F.signature (κ0, (κ1, (κ2, (κ3, tt)))) (q0, (q1, (q2, (q3, tt)))) a at) (WpFn 𝓤 H C Λ code.function passed Post)
     walk =
-        qed W ((‵ (flft κ0 q0) ⊛ ‵ (flft κ1 q1) ⊛ ‵ (flft κ2 q2) ⊛ ‵ (flft κ3 q3) ⊛ ‵ ftrue) ∷ ‵ (owns (S.the-row ∷ ShrSlice (named 0) κ0 u8 ∷ ShrSlice (named 0) κ0 u8 ∷ ShrSlice (named 1) κ1 T.the-row ∷ ShrSlice (named 2) κ2 u8 ∷ ShrSlice (named 3) κ3 u32 ∷ usize ∷ []) a at) ∷ []) ∵
+        qed W ((‵ (flft κ0 q0) ⊛ ‵ (flft κ1 q1) ⊛ ‵ (flft κ2 q2) ⊛ ‵ (flft κ3 q3) ⊛ ‵ ftrue) ∷ ‵
+        (owns (S.the-row ∷ ShrSlice (named 0) κ0 u8 ∷ ShrSlice (named 0) κ0 u8 ∷ ShrSlice (named 1) κ1 T.the-row ∷ ShrSlice (named 2) κ2 u8
+        ∷ ShrSlice (named 3) κ3 u32 ∷ usize ∷ []) a at) ∷ []) ∵
         split ! $ move ! (1 ∷ []) $ split ! $ move ! (1 ∷ []) $ split ! $ move ! (1 ∷ []) $ split ! $ move ! (1 ∷ []) $ drop ! $ move ! (4 ∷ []) $
         fsplit ! $ drop ! $ fsplit ! $ move ! (1 ∷ []) $ fsplit ! $ move ! (1 ∷ []) $ fsplit ! $ move ! (1 ∷ []) $ fsplit ! $ move ! (1 ∷ []) $
         fsplit ! $ move ! (1 ∷ []) $ fsplit ! $ drop ! $ drop ! $ enter ! C Λ code.function passed _ $ alloc1 ! (λ l0. alloc1 ! (λ l1.
@@ -159,28 +212,37 @@ module _ {M : Type 1} (𝓤 : URA M) (H : Heap 𝓤) (A : Atoms 𝓤) (W : Given
         use1 W (‵ Own-views ⊛ ‵ Own-views) (shr-slice-copy 𝓤 H A W (named 0) κ0 u8 .twice views (slice-vals views)) $ split ! $ move ! (0 ∷ 2 ∷ []) $
         fjoin ! $ nothing ! $ move ! (34 ∷ 0 ∷ []) $ join ! $ join ! $
         use1 W (raw (Cnamed 𝓤 H A mem run .pre to1)) (asks 𝓤 (onEntry 𝓤 H A Cnamedm.signature (κ0, tt) (q0, tt) a1 (slice-vals views, (vint w64 r ∷ [], tt)))) $
-        calls-at ! fm (Cnamed 𝓤 H A mem run) known1 to1 (and-then ! (load ! (from ! (stop !)) (look ! 20 refl)) (and-then ! (load ! (from ! (stop !)) (look ! 10 refl)) (no-more !))) (λ u1.
-        use1 W (later (some (λ (r1 : ℕ). ((‵ (flft κ0 q0) ⊛ ‵ ftrue) ⊛ ‵ (usize .own r1 (u1 ∷ []))) ⊛ raw (ensured 𝓤 H A Cnamedm.ended (Cnamedm.clauses 𝓤 H A mem run) (κ0, tt) a1 tt r1)))) (id⊢ 𝓤 _) $
+        calls-at ! fm (Cnamed 𝓤 H A mem run) known1 to1 (and-then ! (load ! (from ! (stop !)) (look ! 20 refl))
+        (and-then ! (load ! (from ! (stop !)) (look ! 10 refl)) (no-more !))) (λ u1.
+        use1 W (later (some (λ (r1 : ℕ). ((‵ (flft κ0 q0) ⊛ ‵ ftrue) ⊛ ‵ (usize .own r1 (u1 ∷ []))) ⊛ raw (ensured 𝓤 H A Cnamedm.ended
+        (Cnamedm.clauses 𝓤 H A mem run) (κ0, tt) a1 tt r1)))) (id⊢ 𝓤 _) $
         await ! tt $ pick ! (λ r1. split ! $ move ! (1 ∷ []) $
         use1 W (raw (fact 𝓤 (Said1 r1))) (exE 𝓤 _ (λ ws. snd∗ 𝓤 (sem 𝓤 H A (lasts Cnamedm.ended (κ0, tt) a1 ws)) (fact 𝓤 (Said1 r1)))) $
         heard ! (Said1 r1) (λ e1. split ! $ move ! (1 ∷ []) $ peeks ! usize (Is usize) (shows 𝓤 H A usize) r1 (u1 ∷ []) (λ gr1.
         land ! (from ! (stop !)) (init ! 9 refl (uint-lawful 𝓤 H A W w64 .typed r1 _ gr1 .0)) $
         rewrite ! 9 (λ (w : Val). ‵ (fat fullShare (tyInt w64) l8 0 w)) (ap only (gr1 .0)) refl $ drop ! $ split ! $ move ! (1 ∷ []) $ drop ! $
-        assigns ! (agg ! (and-then ! (lit ! tt) (and-then ! (lit ! tt) (no-more !)))) (from ! (stop !)) (init ! 2 refl (LL.lawful T.the-type T′.the-laws 𝓤 H A W .typed (block 0 0) _ (LL.owes T.the-type T′.the-laws (block 0 0) ((refl, (lit< tt)), ((refl, (lit< tt)), tt))) .0)) $
+        assigns ! (agg ! (and-then ! (lit ! tt) (and-then ! (lit ! tt) (no-more !)))) (from ! (stop !))
+        (init ! 2 refl (LL.lawful T.the-type T′.the-laws 𝓤 H A W .typed (block 0 0) _ (LL.owes T.the-type T′.the-laws (block 0 0)
+        ((refl, (lit< tt)), ((refl, (lit< tt)), tt))) .0)) $
         nothing ! $
-        owned ! T.the-row (Is T.the-row) (LL.makes T.the-type T′.the-plain 𝓤 H A) (block 0 0) _ (LL.owes T.the-type T′.the-laws (block 0 0) ((refl, (lit< tt)), ((refl, (lit< tt)), tt))) $
+        owned ! T.the-row (Is T.the-row) (LL.makes T.the-type T′.the-plain 𝓤 H A) (block 0 0) _ (LL.owes T.the-type T′.the-laws (block 0 0)
+        ((refl, (lit< tt)), ((refl, (lit< tt)), tt))) $
         fjoin ! $ owned ! usize (Is usize) (uint-makes 𝓤 H A W w64) r1 _ (refl, (gr1 .1)) $ fjoin ! $ move ! (29 ∷ []) $
         use1 W (‵ Own-table ⊛ ‵ Own-table) (shr-slice-copy 𝓤 H A W (named 1) κ1 T.the-row .twice table (slice-vals table)) $ split ! $
         move ! (0 ∷ 2 ∷ []) $ fjoin ! $ nothing ! $ move ! (34 ∷ 0 ∷ []) $ join ! $ join ! $
-        use1 W (raw (Cblockor 𝓤 H A mem run .pre (to2 r1 u1))) (asks 𝓤 (onEntry 𝓤 H A Cblockorm.signature (κ1, tt) (q1, tt) (a2 r1 u1) (slice-vals table, (vint w64 r1 ∷ [], (LL.vals T.the-type T′.the-laws (block 0 0), tt))))) $
-        calls-at ! fm (Cblockor 𝓤 H A mem run) known2 (to2 r1 u1) (and-then ! (load ! (from ! (stop !)) (look ! 18 refl)) (and-then ! (load ! (from ! (stop !)) (look ! 10 refl)) (and-then ! (load ! (from ! (stop !)) (look ! 4 refl)) (no-more !)))) (λ u2.
-        use1 W (later (some (λ (r2 : Block). ((‵ (flft κ1 q1) ⊛ ‵ ftrue) ⊛ ‵ (T.the-row .own r2 (u2 ∷ []))) ⊛ raw (ensured 𝓤 H A Cblockorm.ended (Cblockorm.clauses 𝓤 H A mem run) (κ1, tt) (a2 r1 u1) tt r2)))) (id⊢ 𝓤 _) $
+        use1 W (raw (Cblockor 𝓤 H A mem run .pre (to2 r1 u1))) (asks 𝓤 (onEntry 𝓤 H A Cblockorm.signature (κ1, tt) (q1, tt) (a2 r1 u1)
+        (slice-vals table, (vint w64 r1 ∷ [], (LL.vals T.the-type T′.the-laws (block 0 0), tt))))) $
+        calls-at ! fm (Cblockor 𝓤 H A mem run) known2 (to2 r1 u1) (and-then ! (load ! (from ! (stop !)) (look ! 18 refl))
+        (and-then ! (load ! (from ! (stop !)) (look ! 10 refl)) (and-then ! (load ! (from ! (stop !)) (look ! 4 refl)) (no-more !)))) (λ u2.
+        use1 W (later (some (λ (r2 : Block). ((‵ (flft κ1 q1) ⊛ ‵ ftrue) ⊛ ‵ (T.the-row .own r2 (u2 ∷ []))) ⊛ raw (ensured 𝓤 H A Cblockorm.ended
+        (Cblockorm.clauses 𝓤 H A mem run) (κ1, tt) (a2 r1 u1) tt r2)))) (id⊢ 𝓤 _) $
         await ! tt $ pick ! (λ r2. split ! $ move ! (1 ∷ []) $
         use1 W (raw (fact 𝓤 (Said2 r1 u1 r2))) (exE 𝓤 _ (λ ws. snd∗ 𝓤 (sem 𝓤 H A (lasts Cblockorm.ended (κ1, tt) (a2 r1 u1) ws)) (fact 𝓤 (Said2 r1 u1 r2)))) $
         heard ! (Said2 r1 u1 r2) (λ e2. split ! $ move ! (1 ∷ []) $ peeks ! T.the-row (Is T.the-row) (shows 𝓤 H A T.the-row) r2 (u2 ∷ []) (λ gr2.
         land ! (from ! (stop !)) (init ! 9 refl (LL.lawful T.the-type T′.the-laws 𝓤 H A W .typed r2 _ gr2 .0)) $ drop ! $ split ! $ move ! (1 ∷ []) $
         drop ! $
-        assigns ! (of-opd ! (load ! (from ! (fld ! refl (stop !))) (look-in ! 18 (sub ! 1 refl (whole !))))) (from ! (stop !)) (init ! 6 refl (tt, record { fits = (g-table .0) })) $
+        assigns ! (of-opd ! (load ! (from ! (fld ! refl (stop !))) (look-in ! 18 (sub ! 1 refl (whole !))))) (from ! (stop !))
+        (init ! 6 refl (tt, record { fits = (g-table .0) })) $
         nothing ! $ owned ! usize (Is usize) (uint-makes 𝓤 H A W w64) r _ (refl, g-r) $ fjoin ! $ move ! (29 ∷ []) $
         use1 W (‵ Own-places ⊛ ‵ Own-places) (shr-slice-copy 𝓤 H A W (named 3) κ3 u32 .twice places (slice-vals places)) $ split ! $
         move ! (0 ∷ 2 ∷ []) $ fjoin ! $ move ! (30 ∷ []) $
@@ -191,11 +253,30 @@ module _ {M : Type 1} (𝓤 : URA M) (H : Heap 𝓤) (A : Atoms 𝓤) (W : Given
         fjoin ! $ move ! (7 ∷ []) $ use1 W (‵ Own-views ⊛ ‵ Own-views) (shr-slice-copy 𝓤 H A W (named 0) κ0 u8 .twice views (slice-vals views)) $
         split ! $ move ! (0 ∷ 2 ∷ []) $ fjoin ! $ owned ! S.the-row (Is S.the-row) (LL.makes S.the-type S′.the-plain 𝓤 H A) s _ g-s $ fjoin ! $
         nothing ! $ move ! (33 ∷ 0 ∷ []) $ join ! $ move ! (33 ∷ 0 ∷ []) $ join ! $ move ! (8 ∷ 0 ∷ []) $ join ! $ join ! $
-        use1 W (raw (Cgetwith 𝓤 H A mem run .pre (to3 r1 u1 r2 u2))) (asks 𝓤 (onEntry 𝓤 H A Cgetwithm.signature (κ0, (κ2, (κ3, tt))) (q0, (q2, (q3, tt))) (a3 r1 u1 r2 u2) (LL.vals S.the-type S′.the-laws s, (slice-vals views, (slice-vals bytes, (vint w64 (length (now table)) ∷ [], (u2 ∷ [], (slice-vals nulls, (slice-vals places, (vint w64 r ∷ [], tt)))))))))) $
-        calls-at ! fm (Cgetwith 𝓤 H A mem run) known3 (to3 r1 u1 r2 u2) (and-then ! (load ! (from ! (stop !)) (look ! 27 refl)) (and-then ! (load ! (from ! (stop !)) (look ! 25 refl)) (and-then ! (load ! (from ! (stop !)) (look ! 23 refl)) (and-then ! (load ! (from ! (stop !)) (look ! 9 refl)) (and-then ! (load ! (from ! (stop !)) (look ! 11 refl)) (and-then ! (load ! (from ! (stop !)) (look ! 19 refl)) (and-then ! (load ! (from ! (stop !)) (look ! 17 refl)) (and-then ! (load ! (from ! (stop !)) (look ! 15 refl)) (no-more !))))))))) (λ u3.
-        use1 W (later (some (λ (r3 : RefT (List ℕ)). ((‵ (flft κ0 q0) ⊛ ‵ (flft κ2 q2) ⊛ ‵ (flft κ3 q3) ⊛ ‵ ftrue) ⊛ ‵ (ShrSlice (named 0) κ0 u8 .own r3 (u3 ∷ []))) ⊛ raw (ensured 𝓤 H A Cgetwithm.ended (Cgetwithm.clauses 𝓤 H A mem run) (κ0, (κ2, (κ3, tt))) (a3 r1 u1 r2 u2) tt r3)))) (id⊢ 𝓤 _) $
+        use1 W (raw (Cgetwith 𝓤 H A mem run .pre (to3 r1 u1 r2 u2))) (asks 𝓤 (onEntry 𝓤 H A Cgetwithm.signature (κ0, (κ2, (κ3, tt)))
+        (q0, (q2, (q3, tt))) (a3 r1 u1 r2 u2) (
+          LL.vals S.the-type S′.the-laws s,
+          (
+            slice-vals views,
+            (
+              slice-vals bytes,
+              (
+                vint w64 (length (now table)) ∷ [],
+                (u2 ∷ [], (slice-vals nulls, (slice-vals places, (vint w64 r ∷ [], tt)))),
+              ),
+            ),
+          ),
+        ))) $
+        calls-at ! fm (Cgetwith 𝓤 H A mem run) known3 (to3 r1 u1 r2 u2) (and-then ! (load ! (from ! (stop !)) (look ! 27 refl))
+        (and-then ! (load ! (from ! (stop !)) (look ! 25 refl)) (and-then ! (load ! (from ! (stop !)) (look ! 23 refl))
+        (and-then ! (load ! (from ! (stop !)) (look ! 9 refl)) (and-then ! (load ! (from ! (stop !)) (look ! 11 refl))
+        (and-then ! (load ! (from ! (stop !)) (look ! 19 refl)) (and-then ! (load ! (from ! (stop !)) (look ! 17 refl))
+        (and-then ! (load ! (from ! (stop !)) (look ! 15 refl)) (no-more !))))))))) (λ u3.
+        use1 W (later (some (λ (r3 : RefT (List ℕ)). ((‵ (flft κ0 q0) ⊛ ‵ (flft κ2 q2) ⊛ ‵ (flft κ3 q3) ⊛ ‵ ftrue) ⊛ ‵ (ShrSlice (named 0) κ0 u8 .own
+        r3 (u3 ∷ []))) ⊛ raw (ensured 𝓤 H A Cgetwithm.ended (Cgetwithm.clauses 𝓤 H A mem run) (κ0, (κ2, (κ3, tt))) (a3 r1 u1 r2 u2) tt r3)))) (id⊢ 𝓤 _) $
         await ! tt $ pick ! (λ r3. split ! $ move ! (1 ∷ []) $
-        use1 W (raw (fact 𝓤 (Said3 r1 u1 r2 u2 r3))) (exE 𝓤 _ (λ ws. snd∗ 𝓤 (sem 𝓤 H A (lasts Cgetwithm.ended (κ0, (κ2, (κ3, tt))) (a3 r1 u1 r2 u2) ws)) (fact 𝓤 (Said3 r1 u1 r2 u2 r3)))) $
+        use1 W (raw (fact 𝓤 (Said3 r1 u1 r2 u2 r3)))
+        (exE 𝓤 _ (λ ws. snd∗ 𝓤 (sem 𝓤 H A (lasts Cgetwithm.ended (κ0, (κ2, (κ3, tt))) (a3 r1 u1 r2 u2) ws)) (fact 𝓤 (Said3 r1 u1 r2 u2 r3)))) $
         heard ! (Said3 r1 u1 r2 u2 r3) (λ e3. split ! $ move ! (1 ∷ []) $
         peeks ! (ShrSlice (named 0) κ0 u8) (Is (ShrSlice (named 0) κ0 u8)) (shows 𝓤 H A (ShrSlice (named 0) κ0 u8)) r3 (u3 ∷ []) (λ gr3.
         land ! (from ! (stop !)) (init ! 30 refl (shr-slice-lawful 𝓤 H A W (named 0) κ0 u8 .typed r3 _ gr3 .0)) $ move ! (1 ∷ []) $ split ! $
@@ -205,7 +286,10 @@ module _ {M : Type 1} (𝓤 : URA M) (H : Heap 𝓤) (A : Atoms 𝓤) (W : Given
         free1 ! $ move ! (28 ∷ 29 ∷ []) $ free1 ! $ move ! (26 ∷ 27 ∷ []) $ free1 ! $ move ! (24 ∷ 25 ∷ []) $ free1 ! $ move ! (22 ∷ 23 ∷ []) $
         free1 ! $ move ! (20 ∷ 21 ∷ []) $ free1 ! $ move ! (18 ∷ 19 ∷ []) $ free1 ! $ move ! (16 ∷ 17 ∷ []) $ free1 ! $ move ! (14 ∷ 15 ∷ []) $
         free1 ! $ move ! (12 ∷ 13 ∷ []) $ free1 ! $ move ! (10 ∷ 11 ∷ []) $ free1 ! $ free0 ! $
-        suffices ! _ (ends-at 𝓤 H A F.ended stayed (F.clauses 𝓤 H A mem run) W (((κ0, (κ1, (κ2, (κ3, tt)))), (q0, (q1, (q2, (q3, tt)))), tt, a, at), tt) u3 r3 (tt, (tt, (tt, (tt, (tt, (tt, (tt, tt))))))) (tt, (tt, (tt, (tt, (tt, (tt, (tt, tt)))))))) $
+        suffices ! _ (ends-at 𝓤 H A F.ended stayed (F.clauses 𝓤 H A mem run) W (
+          ((κ0, (κ1, (κ2, (κ3, tt)))), (q0, (q1, (q2, (q3, tt)))), tt, a, at),
+          tt,
+        ) u3 r3 (tt, (tt, (tt, (tt, (tt, (tt, (tt, tt))))))) (tt, (tt, (tt, (tt, (tt, (tt, (tt, tt)))))))) $
         says ! (e3 (now table) refl (λ h. e2 ∙ ap (λ (k : ℕ). getD (now table) k (block 0 0)) (e1 h))) $ nothing ! $ move ! (1 ∷ 0 ∷ []) $ join ! $
         move ! (1 ∷ 0 ∷ []) $ join ! $ move ! (7 ∷ 0 ∷ []) $ join ! $ move ! (1 ∷ 0 ∷ []) $ join ! $ frame ! $ nothing ! $
         owned ! usize (Is usize) (uint-makes 𝓤 H A W w64) r _ (refl, g-r) $ fjoin ! $ move ! (5 ∷ 0 ∷ []) $ fjoin ! $ move ! (4 ∷ 0 ∷ []) $ fjoin ! $
@@ -213,19 +297,60 @@ module _ {M : Type 1} (𝓤 : URA M) (H : Heap 𝓤) (A : Atoms 𝓤) (W : Given
         owned ! S.the-row (Is S.the-row) (LL.makes S.the-type S′.the-plain 𝓤 H A) s _ g-s $ fjoin ! $ frame ! $ done !))))))))))))))))))))))))
 
 module _ {M : Type 1} (𝓤 : URA M) (H : Heap 𝓤) (A : Atoms 𝓤) (W : Given 𝓤 H A) (mem : Memory → SProp 𝓤) (run : Routine → Fun 𝓤) where
-  walks : (C : Calls 𝓤 H) (Λ : Loops 𝓤 H) → FmC 𝓤 H (W .laws) C → Triple 𝓤 (C #Cnamed) (Cnamed 𝓤 H A mem run) → Triple 𝓤 (C #Cblockor) (Cblockor 𝓤 H A mem run) → Triple 𝓤 (C #Cgetwith) (Cgetwith 𝓤 H A mem run)
+  walks : (C : Calls 𝓤 H) (Λ : Loops 𝓤 H) → FmC 𝓤 H (W .laws) C → Triple 𝓤 (C #Cnamed) (Cnamed 𝓤 H A mem run)
+      → Triple 𝓤 (C #Cblockor) (Cblockor 𝓤 H A mem run) → Triple 𝓤 (C #Cgetwith) (Cgetwith 𝓤 H A mem run)
       → Walks 𝓤 H A F.ended stayed (WpFn 𝓤 H C Λ code.function) (F.clauses 𝓤 H A mem run)
   walks C Λ fm known1 known2 known3 = walked 𝓤 H A F.ended stayed (F.clauses 𝓤 H A mem run) (WpFn 𝓤 H C Λ code.function)
       (λ κs. (LL.vals S.the-type S′.the-laws, (slice-vals, (slice-vals, (slice-vals, (slice-vals, (slice-vals, (uint-vals w64, tt))))))))
-      (λ κs. (LL.tells S.the-type S′.the-laws, (shr-slice-tells (named 0) (κs .0) u8, (shr-slice-tells (named 0) (κs .0) u8, (shr-slice-tells (named 1) (κs .1 .0) T.the-row, (shr-slice-tells (named 2) (κs .1 .1 .0) u8, (shr-slice-tells (named 3) (κs .1 .1 .1 .0) u32, (uint-tells w64, tt))))))))
-      (λ κs qs bounds a _ are. via 𝓤 _ (fst∗ 𝓤 _ (emp 𝓤)) (walk 𝓤 H A W mem run (κs .0) (κs .1 .0) (κs .1 .1 .0) (κs .1 .1 .1 .0) (qs .0) (qs .1 .0) (qs .1 .1 .0) (qs .1 .1 .1 .0) (a .0) (a .1 .0) (a .1 .1 .0) (a .1 .1 .1 .0) (a .1 .1 .1 .1 .0) (a .1 .1 .1 .1 .1 .0) (a .1 .1 .1 .1 .1 .1 .0)
-      (are .0) (are .1 .0 .0 .1) (are .1 .1 .0 .0 .1) (are .1 .1 .1 .0 .0 .1) (are .1 .1 .1 .1 .0 .0 .1) (are .1 .1 .1 .1 .1 .0 .0 .1) (are .1 .1 .1 .1 .1 .1 .0 .1) C Λ fm known1 known2 known3))
+      (λ κs. (
+        LL.tells S.the-type S′.the-laws,
+        (
+          shr-slice-tells (named 0) (κs .0) u8,
+          (
+            shr-slice-tells (named 0) (κs .0) u8,
+            (
+              shr-slice-tells (named 1) (κs .1 .0) T.the-row,
+              (
+                shr-slice-tells (named 2) (κs .1 .1 .0) u8,
+                (
+                  shr-slice-tells (named 3) (κs .1 .1 .1 .0)
+                      u32,
+                  (uint-tells w64, tt),
+                ),
+              ),
+            ),
+          ),
+        ),
+      ))
+      (λ κs qs bounds a _ are. via 𝓤 _ (fst∗ 𝓤 _ (emp 𝓤)) (walk 𝓤 H A W mem run (κs .0) (κs .1 .0) (κs .1 .1 .0) (κs .1 .1 .1 .0) (qs .0) (qs .1 .0)
+      (qs .1 .1 .0) (qs .1 .1 .1 .0) (a .0) (a .1 .0) (a .1 .1 .0) (a .1 .1 .1 .0) (a .1 .1 .1 .1 .0) (a .1 .1 .1 .1 .1 .0) (a .1 .1 .1 .1 .1 .1 .0)
+      (are .0) (are .1 .0 .0 .1) (are .1 .1 .0 .0 .1) (are .1 .1 .1 .0 .0 .1) (are .1 .1 .1 .1 .0 .0 .1) (are .1 .1 .1 .1 .1 .0 .0 .1)
+      (are .1 .1 .1 .1 .1 .1 .0 .1) C Λ fm known1 known2 known3))
 
 meets : {M : Type 1} (𝓤 : URA M) (H : Heap 𝓤) (A : Atoms 𝓤) (W : Given 𝓤 H A) (mem : Memory → SProp 𝓤) (run : Routine → Fun 𝓤) (𝓣 : Tables 𝓤 H)
-    → Triple 𝓤 (𝓣 .C #Cnamed) (Cnamed 𝓤 H A mem run) → Triple 𝓤 (𝓣 .C #Cblockor) (Cblockor 𝓤 H A mem run) → Triple 𝓤 (𝓣 .C #Cgetwith) (Cgetwith 𝓤 H A mem run) → Meets 𝓤 H A F.signature (WpFn 𝓤 H (𝓣 .C) (𝓣 .Λ) code.function) (F.spec 𝓤 H A mem run)
-meets 𝓤 H A W mem run 𝓣 known1 known2 known3 = walk-meets 𝓤 H A F.ended stayed W
-    (goes-none 𝓤 H A W 4 (λ _. S.the-row) yes (λ κs x f. refl), (goes-none-slice 𝓤 H A W 4 (0 ∷ []) tt (plain (λ _. u8)) yes, (goes-none-slice 𝓤 H A W 4 (0 ∷ []) tt (plain (λ _. u8)) yes, (goes-none-slice 𝓤 H A W 4 (1 ∷ []) tt (plain (λ _. T.the-row)) yes, (goes-none-slice 𝓤 H A W 4 (2 ∷ []) tt (plain (λ _. u8)) yes, (goes-none-slice 𝓤 H A W 4 (3 ∷ []) tt (plain (λ _. u32)) yes, (goes-none 𝓤 H A W 4 (λ _. usize) yes (λ κs x f. refl), tt)))))))
-    (F.clauses 𝓤 H A mem run) (WpFn 𝓤 H (𝓣 .C) (𝓣 .Λ) code.function) (WpFn-mono 𝓤 H (W .laws) 𝓣 code.function) (walks 𝓤 H A W mem run (𝓣 .C) (𝓣 .Λ) (fmOf 𝓤 H (W .laws) 𝓣) known1 known2 known3)
+    → Triple 𝓤 (𝓣 .C #Cnamed) (Cnamed 𝓤 H A mem run) → Triple 𝓤 (𝓣 .C #Cblockor) (Cblockor 𝓤 H A mem run)
+    → Triple 𝓤 (𝓣 .C #Cgetwith) (Cgetwith 𝓤 H A mem run) → Meets 𝓤 H A F.signature (WpFn 𝓤 H (𝓣 .C) (𝓣 .Λ) code.function) (F.spec 𝓤 H A mem run)
+meets 𝓤 H A W mem run 𝓣 known1 known2 known3 = walk-meets 𝓤 H A F.ended stayed W (
+  goes-none 𝓤 H A W 4 (λ _. S.the-row) yes (λ κs x f. refl),
+  (
+    goes-none-slice 𝓤 H A W 4 (0 ∷ []) tt (plain (λ _. u8)) yes,
+    (
+      goes-none-slice 𝓤 H A W 4 (0 ∷ []) tt (plain (λ _. u8)) yes,
+      (
+        goes-none-slice 𝓤 H A W 4 (1 ∷ []) tt (plain (λ _. T.the-row)) yes,
+        (
+          goes-none-slice 𝓤 H A W 4 (2 ∷ []) tt (plain (λ _. u8)) yes,
+          (
+            goes-none-slice 𝓤 H A W 4 (3 ∷ []) tt (plain (λ _. u32)) yes,
+            (goes-none 𝓤 H A W 4 (λ _. usize) yes (λ κs x f. refl), tt),
+          ),
+        ),
+      ),
+    ),
+  ),
+)
+    (F.clauses 𝓤 H A mem run) (WpFn 𝓤 H (𝓣 .C) (𝓣 .Λ) code.function) (WpFn-mono 𝓤 H (W .laws) 𝓣 code.function) (walks 𝓤 H A W mem run (𝓣 .C) (𝓣 .Λ)
+    (fmOf 𝓤 H (W .laws) 𝓣) known1 known2 known3)
 
 pub get-value-spec : {M : Type 1} → stated.statement M
 unfolding code.routine tablesOf

@@ -20,7 +20,12 @@ part-result-end : tie.Need-part-result-end
 part-result-end c = search needs
 
 returns : tie.Need-returns
-returns c = got-none (c .before .before .before .before .before .before .before .args .s) (now (c .before .before .before .before .before .before .before .args .views)) (now (c .before .before .before .before .before .before .before .args .bytes)) (now (c .before .before .before .before .before .before .before .args .nulls)) (now (c .before .before .before .before .before .before .before .args .places)) (c .before .before .before .before .before .before .before .args .count) (c .before .before .before .before .before .before .before .args .r) (c .before .before .before .before .before .before .before .args .b) _ _ (why-fit (c .before .before .before .before .before .before .before .args .s) (now (c .before .before .before .before .before .before .before .args .views)) (now (c .before .before .before .before .before .before .before .args .bytes)) (now (c .before .before .before .before .before .before .before .args .nulls)) (now (c .before .before .before .before .before .before .before .args .places)) (c .before .before .before .before .before .before .before .args .count) (c .before .before .before .before .before .before .before .args .r) (c .before .before .before .before .before .before .before .args .b) (sym (c .before .before .fits-with .ensures) ∙ not-true _ (c .before .if1 .taken))) refl refl
+returns c =
+    let b7 = c .before .before .before .before .before .before .before in
+    got-none (b7 .args .s) (now (b7 .args .views)) (now (b7 .args .bytes)) (now (b7 .args .nulls)) (now (b7 .args .places)) (b7 .args .count)
+    (b7 .args .r) (b7 .args .b) _ _ (why-fit (b7 .args .s) (now (b7 .args .views)) (now (b7 .args .bytes)) (now (b7 .args .nulls))
+    (now (b7 .args .places)) (b7 .args .count) (b7 .args .r) (b7 .args .b) (sym (c .before .before .fits-with .ensures)
+    ∙ not-true _ (c .before .if1 .taken))) refl refl
 
 sub-result-2 : tie.Need-sub-result-2
 sub-result-2 c = search needs
@@ -32,10 +37,18 @@ part-result-end-2 : tie.Need-part-result-end-2
 part-result-end-2 c = search needs
 
 returns-2 : tie.Need-returns-2
-returns-2 c = got-none (c .before .before .before .before .before .before .before .before .args .s) (now (c .before .before .before .before .before .before .before .before .args .views)) (now (c .before .before .before .before .before .before .before .before .args .bytes)) (now (c .before .before .before .before .before .before .before .before .args .nulls)) (now (c .before .before .before .before .before .before .before .before .args .places)) (c .before .before .before .before .before .before .before .before .args .count) (c .before .before .before .before .before .before .before .before .args .r) (c .before .before .before .before .before .before .before .before .args .b) _ _ (why-late (c .before .before .before .before .before .before .before .before .args .s) (now (c .before .before .before .before .before .before .before .before .args .views)) (now (c .before .before .before .before .before .before .before .before .args .bytes)) (now (c .before .before .before .before .before .before .before .before .args .nulls)) (now (c .before .before .before .before .before .before .before .before .args .places)) (c .before .before .before .before .before .before .before .before .args .count) (c .before .before .before .before .before .before .before .before .args .r) (c .before .before .before .before .before .before .before .before .args .b) (sym (c .before .before .before .fits-with .ensures) ∙ not-false _ (c .before .before .if1 .left)) (c .before .if2 .taken)) refl refl
+returns-2 c =
+    let b8 = c .before .before .before .before .before .before .before .before in
+    got-none (b8 .args .s) (now (b8 .args .views)) (now (b8 .args .bytes)) (now (b8 .args .nulls)) (now (b8 .args .places)) (b8 .args .count)
+    (b8 .args .r) (b8 .args .b) _ _ (why-late (b8 .args .s) (now (b8 .args .views)) (now (b8 .args .bytes)) (now (b8 .args .nulls))
+    (now (b8 .args .places)) (b8 .args .count) (b8 .args .r) (b8 .args .b) (sym (c .before .before .before .fits-with .ensures)
+    ∙ not-false _ (c .before .before .if1 .left)) (c .before .if2 .taken)) refl refl
 
 reach-row-requires : tie.Need-reach-row-requires
-reach-row-requires c κs = let f = fitted (c .before .before .before .before .before .before .before .args .s) (now (c .before .before .before .before .before .before .before .args .views)) (now (c .before .before .before .before .before .before .before .args .bytes)) (now (c .before .before .before .before .before .before .before .args .nulls)) (now (c .before .before .before .before .before .before .before .args .places)) (c .before .before .before .before .before .before .before .args .count) (sym (c .before .before .fits-with .ensures) ∙ not-false _ (c .before .if1 .left)) in (f .views, c .if2 .left, f .blocks)
+reach-row-requires c κs =
+    let b7 = c .before .before .before .before .before .before .before in
+    let f = fitted (b7 .args .s) (now (b7 .args .views)) (now (b7 .args .bytes)) (now (b7 .args .nulls)) (now (b7 .args .places)) (b7 .args .count)
+    (sym (c .before .before .fits-with .ensures) ∙ not-false _ (c .before .if1 .left)) in (f .views, c .if2 .left, f .blocks)
 
 sub-result-3 : tie.Need-sub-result-3
 sub-result-3 c = search needs
@@ -47,13 +60,33 @@ part-result-end-3 : tie.Need-part-result-end-3
 part-result-end-3 c = search needs
 
 returns-3 : tie.Need-returns-3
-returns-3 c = got-none (c .before .before .before .before .before .before .before .before .before .before .args .s) (now (c .before .before .before .before .before .before .before .before .before .before .args .views)) (now (c .before .before .before .before .before .before .before .before .before .before .args .bytes)) (now (c .before .before .before .before .before .before .before .before .before .before .args .nulls)) (now (c .before .before .before .before .before .before .before .before .before .before .args .places)) (c .before .before .before .before .before .before .before .before .before .before .args .count) (c .before .before .before .before .before .before .before .before .before .before .args .r) (c .before .before .before .before .before .before .before .before .before .before .args .b) _ _ (why-bad (c .before .before .before .before .before .before .before .before .before .before .args .s) (now (c .before .before .before .before .before .before .before .before .before .before .args .views)) (now (c .before .before .before .before .before .before .before .before .before .before .args .bytes)) (now (c .before .before .before .before .before .before .before .before .before .before .args .nulls)) (now (c .before .before .before .before .before .before .before .before .before .before .args .places)) (c .before .before .before .before .before .before .before .before .before .before .args .count) (c .before .before .before .before .before .before .before .before .before .before .args .r) (c .before .before .before .before .before .before .before .before .before .before .args .b) (sym (c .before .before .before .before .before .fits-with .ensures) ∙ not-false _ (c .before .before .before .before .if1 .left)) (c .before .before .before .if2 .left) _ (c .before .before .reach-row .ensures) (not-true _ (c .before .if3 .taken))) refl refl
+returns-3 c =
+    let b10 = c .before .before .before .before .before .before .before .before .before .before in
+    got-none (b10 .args .s) (now (b10 .args .views)) (now (b10 .args .bytes)) (now (b10 .args .nulls)) (now (b10 .args .places)) (b10 .args .count)
+    (b10 .args .r) (b10 .args .b) _ _ (why-bad (b10 .args .s) (now (b10 .args .views)) (now (b10 .args .bytes)) (now (b10 .args .nulls))
+    (now (b10 .args .places)) (b10 .args .count) (b10 .args .r) (b10 .args .b)
+    (sym (c .before .before .before .before .before .fits-with .ensures) ∙ not-false _ (c .before .before .before .before .if1 .left))
+    (c .before .before .before .if2 .left) _ (c .before .before .reach-row .ensures) (not-true _ (c .before .if3 .taken))) refl refl
 
 part-row-requires : tie.Need-part-row-requires
-part-row-requires c κs = let f = fitted (c .before .before .before .before .before .before .before .before .before .args .s) (now (c .before .before .before .before .before .before .before .before .before .args .views)) (now (c .before .before .before .before .before .before .before .before .before .args .bytes)) (now (c .before .before .before .before .before .before .before .before .before .args .nulls)) (now (c .before .before .before .before .before .before .before .before .before .args .places)) (c .before .before .before .before .before .before .before .before .before .args .count) (sym (c .before .before .before .before .fits-with .ensures) ∙ not-false _ (c .before .before .before .if1 .left)) in (f .views, c .before .before .if2 .left, reached (c .before .before .before .before .before .before .before .before .before .args .s) (now (c .before .before .before .before .before .before .before .before .before .args .views)) (now (c .before .before .before .before .before .before .before .before .before .args .bytes)) (now (c .before .before .before .before .before .before .before .before .before .args .nulls)) (now (c .before .before .before .before .before .before .before .before .before .args .places)) (c .before .before .before .before .before .before .before .before .before .args .count) (c .before .before .before .before .before .before .before .before .before .args .r) (c .before .before .before .before .before .before .before .before .before .args .b) (sym (c .before .before .before .before .fits-with .ensures) ∙ not-false _ (c .before .before .before .if1 .left)) (c .before .before .if2 .left) _ (c .before .reach-row .ensures) (not-false _ (c .if3 .left)))
+part-row-requires c κs =
+    let b9 = c .before .before .before .before .before .before .before .before .before in
+    let f = fitted (b9 .args .s) (now (b9 .args .views)) (now (b9 .args .bytes)) (now (b9 .args .nulls)) (now (b9 .args .places)) (b9 .args .count)
+    (sym (c .before .before .before .before .fits-with .ensures) ∙ not-false _ (c .before .before .before .if1 .left)) in (
+      f .views,
+      c .before .before .if2 .left,
+      reached (b9 .args .s) (now (b9 .args .views)) (now (b9 .args .bytes)) (now (b9 .args .nulls))
+          (now (b9 .args .places)) (b9 .args .count) (b9 .args .r) (b9 .args .b) (sym (c .before .before .before .before .fits-with .ensures)
+          ∙ not-false _ (c .before .before .before .if1 .left)) (c .before .before .if2 .left) _ (c .before .reach-row .ensures) (not-false _ (c .if3 .left)),
+    )
 
 returns-4 : tie.Need-returns-4
-returns-4 c = got-value (c .before .before .before .before .before .before .before .before .before .before .args .s) (now (c .before .before .before .before .before .before .before .before .before .before .args .views)) (now (c .before .before .before .before .before .before .before .before .before .before .args .bytes)) (now (c .before .before .before .before .before .before .before .before .before .before .args .nulls)) (now (c .before .before .before .before .before .before .before .before .before .before .args .places)) (c .before .before .before .before .before .before .before .before .before .before .args .count) (c .before .before .before .before .before .before .before .before .before .before .args .r) (c .before .before .before .before .before .before .before .before .before .before .args .b) (sym (c .before .before .before .before .before .fits-with .ensures) ∙ not-false _ (c .before .before .before .before .if1 .left)) (c .before .before .before .if2 .left) _ (c .before .before .reach-row .ensures) (not-false _ (c .before .if3 .left)) _ (c .part-row .ensures)
+returns-4 c =
+    let b10 = c .before .before .before .before .before .before .before .before .before .before in
+    got-value (b10 .args .s) (now (b10 .args .views)) (now (b10 .args .bytes)) (now (b10 .args .nulls)) (now (b10 .args .places)) (b10 .args .count)
+    (b10 .args .r) (b10 .args .b) (sym (c .before .before .before .before .before .fits-with .ensures)
+    ∙ not-false _ (c .before .before .before .before .if1 .left)) (c .before .before .before .if2 .left) _ (c .before .before .reach-row .ensures)
+    (not-false _ (c .before .if3 .left)) _ (c .part-row .ensures)
 
 pub get-with-spec : {M : Type 1} → statement M
 get-with-spec =

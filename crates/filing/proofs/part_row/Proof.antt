@@ -43,10 +43,20 @@ view-offset-requires : tie.Need-view-offset-requires
 view-offset-requires c κs = search needs
 
 add-a-2 : tie.Need-add-a-2
-add-a-2 c = let g = row-start _ _ _ _ _ _ (c .before .before .before .before .before .before .before .pre .2 .ready) _ (c .before .before .before .before .view-len .ensures .0) (omega arith) _ (c .before .before .view-block .ensures .0) (c .before .before .before .before .before .before .before .pre .2 .reach) _ (c .view-offset .ensures .0) _ (or-start (c .before .before .before .before .before .before .before .args .s) _ _ (c .before .before .before .before .before .before .before .pre .2 .starts) (c .before .before .before .before .before .before .before .pre .2 .lens) _ (c .before .record-or .ensures .0) (c .before .before .before .before .before .before .before .pre .2 .names _ (c .before .before .view-block .ensures .0))) in omega (arith, g .1, byte-limit-small)
+add-a-2 c =
+    let b7 = c .before .before .before .before .before .before .before in
+    let g = row-start _ _ _ _ _ _ (b7 .pre .2 .ready) _ (c .before .before .before .before .view-len .ensures .0) (omega arith) _
+    (c .before .before .view-block .ensures .0) (b7 .pre .2 .reach) _ (c .view-offset .ensures .0) _ (or-start (b7 .args .s) _ _
+    (b7 .pre .2 .starts) (b7 .pre .2 .lens) _ (c .before .record-or .ensures .0)
+    (b7 .pre .2 .names _ (c .before .before .view-block .ensures .0))) in omega (arith, g .1, byte-limit-small)
 
 add-e-2 : tie.Need-add-e-2
-add-e-2 c = let g = row-start _ _ _ _ _ _ (c .before .before .before .before .before .before .before .pre .2 .ready) _ (c .before .before .before .before .view-len .ensures .0) (omega arith) _ (c .before .before .view-block .ensures .0) (c .before .before .before .before .before .before .before .pre .2 .reach) _ (c .view-offset .ensures .0) _ (or-start (c .before .before .before .before .before .before .before .args .s) _ _ (c .before .before .before .before .before .before .before .pre .2 .starts) (c .before .before .before .before .before .before .before .pre .2 .lens) _ (c .before .record-or .ensures .0) (c .before .before .before .before .before .before .before .pre .2 .names _ (c .before .before .view-block .ensures .0))) in omega (arith, g .1, byte-limit-small)
+add-e-2 c =
+    let b7 = c .before .before .before .before .before .before .before in
+    let g = row-start _ _ _ _ _ _ (b7 .pre .2 .ready) _ (c .before .before .before .before .view-len .ensures .0) (omega arith) _
+    (c .before .before .view-block .ensures .0) (b7 .pre .2 .reach) _ (c .view-offset .ensures .0) _ (or-start (b7 .args .s) _ _
+    (b7 .pre .2 .starts) (b7 .pre .2 .lens) _ (c .before .record-or .ensures .0)
+    (b7 .pre .2 .names _ (c .before .before .view-block .ensures .0))) in omega (arith, g .1, byte-limit-small)
 
 sub-result-2 : tie.Need-sub-result-2
 sub-result-2 c = search needs
@@ -55,10 +65,19 @@ part-result-start-2 : tie.Need-part-result-start-2
 part-result-start-2 c = search needs
 
 part-result-end-2 : tie.Need-part-result-end-2
-part-result-end-2 c = let g = row-start _ _ _ _ _ _ (c .before .before .before .before .before .before .before .pre .2 .ready) _ (c .before .before .before .before .view-len .ensures .0) (omega arith) _ (c .before .before .view-block .ensures .0) (c .before .before .before .before .before .before .before .pre .2 .reach) _ (c .view-offset .ensures .0) _ (or-start (c .before .before .before .before .before .before .before .args .s) _ _ (c .before .before .before .before .before .before .before .pre .2 .starts) (c .before .before .before .before .before .before .before .pre .2 .lens) _ (c .before .record-or .ensures .0) (c .before .before .before .before .before .before .before .pre .2 .names _ (c .before .before .view-block .ensures .0))) in omega (arith, g .0)
+part-result-end-2 c =
+    let b7 = c .before .before .before .before .before .before .before in
+    let g = row-start _ _ _ _ _ _ (b7 .pre .2 .ready) _ (c .before .before .before .before .view-len .ensures .0) (omega arith) _
+    (c .before .before .view-block .ensures .0) (b7 .pre .2 .reach) _ (c .view-offset .ensures .0) _ (or-start (b7 .args .s) _ _
+    (b7 .pre .2 .starts) (b7 .pre .2 .lens) _ (c .before .record-or .ensures .0)
+    (b7 .pre .2 .names _ (c .before .before .view-block .ensures .0))) in omega (arith, g .0)
 
 returns-2 : tie.Need-returns-2
-returns-2 c = λ ss ns rd h z. row-part _ _ _ ss ns _ rd _ (c .before .before .before .before .before .view-len .ensures .0) (omega arith) _ (c .before .before .before .view-block .ensures .0) z _ (c .before .view-offset .ensures .0) _ (or-start (c .before .before .before .before .before .before .before .before .args .s) _ _ ss ns _ (c .before .before .record-or .ensures .0) (h _ (c .before .before .before .view-block .ensures .0)))
+returns-2 c =
+    let b8 = c .before .before .before .before .before .before .before .before in
+    λ ss ns rd h z. row-part _ _ _ ss ns _ rd _ (c .before .before .before .before .before .view-len .ensures .0) (omega arith) _
+    (c .before .before .before .view-block .ensures .0) z _ (c .before .view-offset .ensures .0) _ (or-start (b8 .args .s) _ _ ss ns _
+    (c .before .before .record-or .ensures .0) (h _ (c .before .before .before .view-block .ensures .0)))
 
 pub part-row-spec : {M : Type 1} → statement M
 part-row-spec =

@@ -23,10 +23,14 @@ bytes-room-requires : tie.Need-bytes-room-requires
 bytes-room-requires c κs = search needs
 
 why-room-requires : tie.Need-why-room-requires
-why-room-requires c κs = let f = fits-small _ _ _ _ _ _ (c .before .before .before .before .before .args .n) (sym (c .before .before .before .before .fits-with .ensures) ∙ not-false _ (c .before .before .before .if1 .left)) in (omega (arith, f .0, block-limit-small), omega (arith, f .1, byte-limit-small))
+why-room-requires c κs = let f = fits-small _ _ _ _ _ _ (c .before .before .before .before .before .args .n)
+    (sym (c .before .before .before .before .fits-with .ensures) ∙ not-false _ (c .before .before .before .if1 .left)) in
+    (omega (arith, f .0, block-limit-small), omega (arith, f .1, byte-limit-small))
 
 returns-3 : tie.Need-returns-3
-returns-3 c = block-room _ _ _ _ _ _ _ (sym (c .before .before .before .before .before .fits-with .ensures) ∙ not-false _ (c .before .before .before .before .if1 .left)) (omega (arith, byte-limit-is)) _ _ _ (c .before .before .blocks-room .ensures) (c .before .bytes-room .ensures) (c .why-room .ensures)
+returns-3 c = block-room _ _ _ _ _ _ _ (sym (c .before .before .before .before .before .fits-with .ensures)
+    ∙ not-false _ (c .before .before .before .before .if1 .left)) (omega (arith, byte-limit-is)) _ _ _ (c .before .before .blocks-room .ensures)
+    (c .before .bytes-room .ensures) (c .why-room .ensures)
 
 pub why-block-spec : {M : Type 1} → statement M
 why-block-spec =

@@ -11,19 +11,36 @@ fits-with-requires : tie.Need-fits-with-requires
 fits-with-requires c κs = search needs
 
 returns : tie.Need-returns
-returns c = why-fit (c .before .before .before .before .before .before .args .s) (now (c .before .before .before .before .before .before .args .views)) (now (c .before .before .before .before .before .before .args .bytes)) (now (c .before .before .before .before .before .before .args .nulls)) (now (c .before .before .before .before .before .before .args .places)) (c .before .before .before .before .before .before .args .count) (c .before .before .before .before .before .before .args .r) (c .before .before .before .before .before .before .args .b) (sym (c .before .fits-with .ensures) ∙ not-true _ (c .if1 .taken))
+returns c =
+    let b6 = c .before .before .before .before .before .before in
+    why-fit (b6 .args .s) (now (b6 .args .views)) (now (b6 .args .bytes)) (now (b6 .args .nulls)) (now (b6 .args .places)) (b6 .args .count)
+    (b6 .args .r) (b6 .args .b) (sym (c .before .fits-with .ensures) ∙ not-true _ (c .if1 .taken))
 
 returns-2 : tie.Need-returns-2
-returns-2 c = why-late (c .before .before .before .before .before .before .before .args .s) (now (c .before .before .before .before .before .before .before .args .views)) (now (c .before .before .before .before .before .before .before .args .bytes)) (now (c .before .before .before .before .before .before .before .args .nulls)) (now (c .before .before .before .before .before .before .before .args .places)) (c .before .before .before .before .before .before .before .args .count) (c .before .before .before .before .before .before .before .args .r) (c .before .before .before .before .before .before .before .args .b) (sym (c .before .before .fits-with .ensures) ∙ not-false _ (c .before .if1 .left)) (c .if2 .taken)
+returns-2 c =
+    let b7 = c .before .before .before .before .before .before .before in
+    why-late (b7 .args .s) (now (b7 .args .views)) (now (b7 .args .bytes)) (now (b7 .args .nulls)) (now (b7 .args .places)) (b7 .args .count)
+    (b7 .args .r) (b7 .args .b) (sym (c .before .before .fits-with .ensures) ∙ not-false _ (c .before .if1 .left)) (c .if2 .taken)
 
 reach-row-requires : tie.Need-reach-row-requires
-reach-row-requires c κs = let f = fitted (c .before .before .before .before .before .before .before .args .s) (now (c .before .before .before .before .before .before .before .args .views)) (now (c .before .before .before .before .before .before .before .args .bytes)) (now (c .before .before .before .before .before .before .before .args .nulls)) (now (c .before .before .before .before .before .before .before .args .places)) (c .before .before .before .before .before .before .before .args .count) (sym (c .before .before .fits-with .ensures) ∙ not-false _ (c .before .if1 .left)) in (f .views, c .if2 .left, f .blocks)
+reach-row-requires c κs =
+    let b7 = c .before .before .before .before .before .before .before in
+    let f = fitted (b7 .args .s) (now (b7 .args .views)) (now (b7 .args .bytes)) (now (b7 .args .nulls)) (now (b7 .args .places)) (b7 .args .count)
+    (sym (c .before .before .fits-with .ensures) ∙ not-false _ (c .before .if1 .left)) in (f .views, c .if2 .left, f .blocks)
 
 returns-3 : tie.Need-returns-3
-returns-3 c = why-bad (c .before .before .before .before .before .before .before .before .before .args .s) (now (c .before .before .before .before .before .before .before .before .before .args .views)) (now (c .before .before .before .before .before .before .before .before .before .args .bytes)) (now (c .before .before .before .before .before .before .before .before .before .args .nulls)) (now (c .before .before .before .before .before .before .before .before .before .args .places)) (c .before .before .before .before .before .before .before .before .before .args .count) (c .before .before .before .before .before .before .before .before .before .args .r) (c .before .before .before .before .before .before .before .before .before .args .b) (sym (c .before .before .before .before .fits-with .ensures) ∙ not-false _ (c .before .before .before .if1 .left)) (c .before .before .if2 .left) _ (c .before .reach-row .ensures) (not-true _ (c .if3 .taken))
+returns-3 c =
+    let b9 = c .before .before .before .before .before .before .before .before .before in
+    why-bad (b9 .args .s) (now (b9 .args .views)) (now (b9 .args .bytes)) (now (b9 .args .nulls)) (now (b9 .args .places)) (b9 .args .count)
+    (b9 .args .r) (b9 .args .b) (sym (c .before .before .before .before .fits-with .ensures) ∙ not-false _ (c .before .before .before .if1 .left))
+    (c .before .before .if2 .left) _ (c .before .reach-row .ensures) (not-true _ (c .if3 .taken))
 
 returns-4 : tie.Need-returns-4
-returns-4 c = why-fine (c .before .before .before .before .before .before .before .before .before .args .s) (now (c .before .before .before .before .before .before .before .before .before .args .views)) (now (c .before .before .before .before .before .before .before .before .before .args .bytes)) (now (c .before .before .before .before .before .before .before .before .before .args .nulls)) (now (c .before .before .before .before .before .before .before .before .before .args .places)) (c .before .before .before .before .before .before .before .before .before .args .count) (c .before .before .before .before .before .before .before .before .before .args .r) (c .before .before .before .before .before .before .before .before .before .args .b) (sym (c .before .before .before .before .fits-with .ensures) ∙ not-false _ (c .before .before .before .if1 .left)) (c .before .before .if2 .left) _ (c .before .reach-row .ensures) (not-false _ (c .if3 .left))
+returns-4 c =
+    let b9 = c .before .before .before .before .before .before .before .before .before in
+    why-fine (b9 .args .s) (now (b9 .args .views)) (now (b9 .args .bytes)) (now (b9 .args .nulls)) (now (b9 .args .places)) (b9 .args .count)
+    (b9 .args .r) (b9 .args .b) (sym (c .before .before .before .before .fits-with .ensures) ∙ not-false _ (c .before .before .before .if1 .left))
+    (c .before .before .if2 .left) _ (c .before .reach-row .ensures) (not-false _ (c .if3 .left))
 
 pub why-with-spec : {M : Type 1} → statement M
 why-with-spec =

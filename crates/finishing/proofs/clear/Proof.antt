@@ -16,7 +16,8 @@ same-length : tie.Need-same-length
 same-length c = search needs
 
 returns-2 : tie.Need-returns-2
-returns-2 c = clear-on _ _ _ (c .before .before .before .before .before .is-off .ensures) _ (c .before .before .before .before .if1 .left) (c .before .before .zero-all .ensures)
+returns-2 c = clear-on _ _ _ (c .before .before .before .before .before .is-off .ensures) _ (c .before .before .before .before .if1 .left)
+    (c .before .before .zero-all .ensures)
 
 pub clear-spec : {M : Type 1} → statement M
 clear-spec = tie.close (tie.spec is-off-requires returns zero-all-requires same-length returns-2)

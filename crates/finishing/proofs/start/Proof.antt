@@ -23,7 +23,12 @@ empty-state-requires-2 : tie.Need-empty-state-requires-2
 empty-state-requires-2 c κs = search needs
 
 returns-2 : tie.Need-returns-2
-returns-2 c = start-no _ _ _ (rw ((sym (c .before .before .before .before .lawful-sizes .ensures) ∙ not-false _ (c .before .before .before .if1 .left)), sym (c .before .before .lawful-merging .ensures) ∙ not-true _ (c .before .if2 .taken))) (c .empty-state2 .ensures)
+returns-2 c = start-no _ _ _ (rw (
+  (sym (c .before .before .before .before .lawful-sizes .ensures)
+      ∙ not-false _ (c .before .before .before .if1 .left)),
+  sym (c .before .before .lawful-merging .ensures) ∙ not-true _ (c .before .if2 .taken),
+))
+    (c .empty-state2 .ensures)
 
 clear-requires : tie.Need-clear-requires
 clear-requires c κs = search needs
@@ -39,8 +44,15 @@ same-length c = search needs
 
 returns-3 : tie.Need-returns-3
 returns-3 c =
-    let a = c .before .before .before .before .before .before .before .before .before .before .before .args in
-    start-yes _ _ _ _ (rw ((sym (c .before .before .before .before .before .before .before .before .before .lawful-sizes .ensures) ∙ not-false _ (c .before .before .before .before .before .before .before .before .if1 .left)), sym (c .before .before .before .before .before .before .before .lawful-merging .ensures) ∙ not-false _ (c .before .before .before .before .before .before .if2 .left))) (c .empty-state3 .ensures ∙ ap (λ (g : Growth). emptyState (a .t .kind) g (a .t .merging)) (c .before .growth-of .ensures)) (c .before .before .before .before .clear .ensures)
+    let b8 = c .before .before .before .before .before .before .before .before in let b9 = b8 .before in let b11 = b9 .before .before in
+    let a = b11 .args in
+    start-yes _ _ _ _ (rw (
+      (sym (b9 .lawful-sizes .ensures) ∙ not-false _ (b8 .if1 .left)),
+      sym
+          (c .before .before .before .before .before .before .before .lawful-merging .ensures)
+          ∙ not-false _ (c .before .before .before .before .before .before .if2 .left),
+    )) (c .empty-state3 .ensures
+    ∙ ap (λ (g : Growth). emptyState (a .t .kind) g (a .t .merging)) (c .before .growth-of .ensures)) (c .before .before .before .before .clear .ensures)
 
 pub start-spec : {M : Type 1} → statement M
 start-spec =

@@ -85,7 +85,8 @@ returns c =
     let last =
     ⊎-elim (λ w. more-word s (l .i) (l .inv .2) _ _ _ _ (w .0 .taken) (l .inv .5) (w .1 .ensures) (w .2 .ensures) (w .3))
     (λ w. no-word s (l .i) (l .inv .2) _ _ (omega arith) (l .inv .5) (w .1)) (c .before .before .before .if1 .came) in
-    close s (l .i) (l .inv .2) _ _ _ _ _ (omega arith) (omega arith) (l .inv .4) last (c .before .before .le644 .ensures) (c .before .mix4 .ensures) (c .mix5 .ensures)
+    close s (l .i) (l .inv .2) _ _ _ _ _ (omega arith) (omega arith) (l .inv .4) last (c .before .before .le644 .ensures) (c .before .mix4 .ensures)
+    (c .mix5 .ensures)
 
 pub hash-spec : {M : Type 1} → statement M
 hash-spec =

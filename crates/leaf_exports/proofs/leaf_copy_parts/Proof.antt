@@ -14,7 +14,8 @@ use Rattle.leaf_exports.proofs.leaf_copy_parts.Statement.{statement}
 use Rattle.leaf_exports.proofs.leaf_copy_parts.Tie as tie
 
 abbrev Inv-loop : tie.InvT-loop
-Inv-loop src dst₀ n room o₀ dst o = (0 < n) × (room ≡ min (length src) (length dst₀)) × (o ≤ room) × (o % n ≡ 0) × (length dst ≡ length dst₀) × (dst ≡ copied dst₀ src o)
+Inv-loop src dst₀ n room o₀ dst o = (0 < n) × (room ≡ min (length src) (length dst₀)) × (o ≤ room) × (o % n ≡ 0) × (length dst ≡ length dst₀)
+    × (dst ≡ copied dst₀ src o)
 
 abbrev μ-loop : tie.MeasureT-loop
 μ-loop src dst₀ n room o₀ dst o = room - o
@@ -63,11 +64,19 @@ loop-less c = search needs
 
 loop-again : tie.Need-loop-again Inv-loop μ-loop
 loop-again c =
-    let s = c .before .before .before .before .before .before .before .before .before .before .before .args in
+    let b11 = c .before .before .before .before .before .before .before .before .before .before .before in
+    let s = b11 .args in
     let l = c .before .before .before .before .before .before .loop in
     let k : l .o + s .n - l .o ≡ s .n = omega arith in
-    let next = copied-more (now (s .dst)) (now (s .src)) (l .dst) _ (l .o) (s .n) (omega arith) (l .inv .5) (rw k at (c .before .before .copy .ensures)) in
-    (search needs, search needs, search needs, add-mod-right _ _ ∙ l .inv .3, ap length next ∙ copied-length (now (s .dst)) (now (s .src)) (l .o + s .n) (omega arith) (omega arith), next)
+    let next = copied-more (now (s .dst)) (now (s .src)) (l .dst) _ (l .o) (s .n) (omega arith) (l .inv .5) (rw k at (c .before .before .copy .ensures)) in (
+      search needs,
+      search needs,
+      search needs,
+      add-mod-right _ _ ∙ l .inv .3,
+      ap length next ∙ copied-length (now (s .dst)) (now (s .src))
+          (l .o + s .n) (omega arith) (omega arith),
+      next,
+    )
 
 same-length : tie.Need-same-length Inv-loop μ-loop
 same-length c = search needs

@@ -42,7 +42,12 @@ loop-less : tie.Need-loop-less Inv-loop μ-loop
 loop-less c = search needs
 
 loop-again : tie.Need-loop-again Inv-loop μ-loop
-loop-again c = (search needs, search needs, summed-more _ _ _ _ _ (c .before .before .before .loop .inv .2) (c .before .count-nulls .ensures) (c .wrapping-add-u64 .ensures))
+loop-again c = (
+  search needs,
+  search needs,
+  summed-more _ _ _ _ _ (c .before .before .before .loop .inv .2) (c .before .count-nulls .ensures)
+      (c .wrapping-add-u64 .ensures),
+)
 
 returns-3 : tie.Need-returns-3 Inv-loop μ-loop
 unfolding nullsBatch

@@ -10,7 +10,8 @@ use Rattle.leaf_exports.proofs.leaf_count_pairs.Statement.{statement}
 use Rattle.leaf_exports.proofs.leaf_count_pairs.Tie as tie
 
 abbrev Inv-loop : tie.InvT-loop
-Inv-loop bytes ends sameness n sum₀ k₀ sum k = (n ≡ length ends) × (2 ≤ n) × (k ≤ n - 2) × (sum ≡ summed (λ j. pairIn bytes (getD ends j 0) (getD ends (j + 1) 0) (getD ends (j + 2) 0) sameness) k)
+Inv-loop bytes ends sameness n sum₀ k₀ sum k = (n ≡ length ends) × (2 ≤ n) × (k ≤ n - 2)
+    × (sum ≡ summed (λ j. pairIn bytes (getD ends j 0) (getD ends (j + 1) 0) (getD ends (j + 2) 0) sameness) k)
 
 abbrev μ-loop : tie.MeasureT-loop
 μ-loop bytes ends sameness n sum₀ k₀ sum k = n - k
@@ -62,7 +63,13 @@ loop-less : tie.Need-loop-less Inv-loop μ-loop
 loop-less c = search needs
 
 loop-again : tie.Need-loop-again Inv-loop μ-loop
-loop-again c = (search needs, search needs, search needs, summed-more _ _ _ _ _ (c .before .before .before .before .before .before .loop .inv .3) (c .before .pair-in .ensures) (c .wrapping-add-u64 .ensures))
+loop-again c = (
+  search needs,
+  search needs,
+  search needs,
+  summed-more _ _ _ _ _ (c .before .before .before .before .before .before .loop .inv .3)
+      (c .before .pair-in .ensures) (c .wrapping-add-u64 .ensures),
+)
 
 returns-2 : tie.Need-returns-2 Inv-loop μ-loop
 unfolding pairsBatch

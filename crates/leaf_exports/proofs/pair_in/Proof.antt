@@ -43,8 +43,10 @@ one-if-requires c κs = search needs
 returns-4 : tie.Need-returns-4
 unfolding pairIn
 returns-4 c =
-    let a = c .before .before .before .before .before .before .before .before .before .args in
-    both-in (now (a .bytes)) (a .s) (a .m) (a .e) _ _ (omega arith) (omega arith) (omega arith) (rw (c .before .before .before .before .if4 .taken) (c .one-if .ensures ∙ ap (λ (t : Bool). pick {A = ℕ} t 1 0) (c .before .same .ensures)))
+    let b9 = c .before .before .before .before .before .before .before .before .before in
+    let a = b9 .args in
+    both-in (now (a .bytes)) (a .s) (a .m) (a .e) _ _ (omega arith) (omega arith) (omega arith) (rw (c .before .before .before .before .if4 .taken)
+    (c .one-if .ensures ∙ ap (λ (t : Bool). pick {A = ℕ} t 1 0) (c .before .same .ensures)))
 
 part-cmp-start : tie.Need-part-cmp-start
 part-cmp-start c = search needs
@@ -67,8 +69,10 @@ one-if-less-requires c κs = search needs
 returns-5 : tie.Need-returns-5
 unfolding pairIn
 returns-5 c =
-    let a = c .before .before .before .before .before .before .before .before .before .args in
-    both-in (now (a .bytes)) (a .s) (a .m) (a .e) _ _ (omega arith) (omega arith) (omega arith) (rw (c .before .before .before .before .if4 .left) (c .one-if-less .ensures ∙ ap oneIfLess (c .before .cmp .ensures)))
+    let b9 = c .before .before .before .before .before .before .before .before .before in
+    let a = b9 .args in
+    both-in (now (a .bytes)) (a .s) (a .m) (a .e) _ _ (omega arith) (omega arith) (omega arith) (rw (c .before .before .before .before .if4 .left)
+    (c .one-if-less .ensures ∙ ap oneIfLess (c .before .cmp .ensures)))
 
 pub pair-in-spec : {M : Type 1} → statement M
 pair-in-spec =

@@ -61,7 +61,8 @@ put-number-returns : (t : ℕ) → put-number-lts.Need-returns (
   put-number-below t,
   put-number.Post,
 ) (put-number-at t) put-number.Post
-put-number-returns t c = rw (decimal-one _ (c .before .before .before .before .before .if1 .taken), ← c .before .before .before .digit .ensures) (c .before .before .put .ensures)
+put-number-returns t c = rw (decimal-one _ (c .before .before .before .before .before .if1 .taken), ← c .before .before .before .digit .ensures)
+    (c .before .before .put .ensures)
 
 put-number-put-number-requires : (t : ℕ) → put-number-lts.Need-put-number-requires (
   digit-reads.Asked,
@@ -71,7 +72,11 @@ put-number-put-number-requires : (t : ℕ) → put-number-lts.Need-put-number-re
   put-number-below t,
   put-number.Post,
 ) (put-number-at t) put-number.Post
-put-number-put-number-requires t c κs = (omega (arith, c .before .before .before .pre .0), omega (arith, more-length (c .before .before .before .args .n) (c .before .if1 .left), c .before .before .before .pre .1))
+put-number-put-number-requires t c κs = (
+  omega (arith, c .before .before .before .pre .0),
+  omega
+      (arith, more-length (c .before .before .before .args .n) (c .before .if1 .left), c .before .before .before .pre .1),
+)
 
 put-number-digit-requires-2 : (t : ℕ) → put-number-lts.Need-digit-requires-2 (
   digit-reads.Asked,
@@ -91,7 +96,15 @@ put-number-put-requires-2 : (t : ℕ) → put-number-lts.Need-put-requires-2 (
   put-number-below t,
   put-number.Post,
 ) (put-number-at t) put-number.Post
-put-number-put-requires-2 t c κs = omega (arith, more-length (c .before .before .before .before .before .before .before .before .args .n) (c .before .before .before .before .before .before .if1 .left), c .before .before .before .before .before .before .before .before .pre .1, c .before .before .before .before .put-number .ensures .ends, c .before .before .before .before .put-number .ensures .same)
+put-number-put-requires-2 t c κs =
+    let b8 = c .before .before .before .before .before .before .before .before in
+    omega (
+      arith,
+      more-length (b8 .args .n) (c .before .before .before .before .before .before .if1 .left),
+      b8 .pre .1,
+      c .before .before .before .before .put-number .ensures .ends,
+      c .before .before .before .before .put-number .ensures .same,
+    )
 
 put-number-same-length-2 : (t : ℕ) → put-number-lts.Need-same-length-2 (
   digit-reads.Asked,
@@ -111,7 +124,10 @@ put-number-returns-2 : (t : ℕ) → put-number-lts.Need-returns-2 (
   put-number-below t,
   put-number.Post,
 ) (put-number-at t) put-number.Post
-put-number-returns-2 t c = rw (decimal-more _ (c .before .before .before .before .before .before .before .before .before .if1 .left), ← c .before .before .before .digit2 .ensures) (put-put (c .before .before .before .before .before .before .before .put-number .ensures) (c .before .before .put2 .ensures))
+put-number-returns-2 t c =
+    let b9 = c .before .before .before .before .before .before .before .before .before in
+    rw (decimal-more _ (b9 .if1 .left), ← c .before .before .before .digit2 .ensures)
+    (put-put (c .before .before .before .before .before .before .before .put-number .ensures) (c .before .before .put2 .ensures))
 
 pub +put-number-spec : {M : Type 1} → statement M
 +put-number-spec = close μ-put-number λ t. put-number-lts.spec (

@@ -35,7 +35,11 @@ loop-less : tie.Need-loop-less Inv-loop μ-loop
 loop-less c = omega arith
 
 loop-again : tie.Need-loop-again Inv-loop μ-loop
-loop-again c = (omega arith, put-next _ _ (c .before .loop-test .taken) (c .before .before .loop .inv .1) (omega (arith, c .before .before .loop .inv .1 .same)))
+loop-again c = (
+  omega arith,
+  put-next _ _ (c .before .loop-test .taken) (c .before .before .loop .inv .1)
+      (omega (arith, c .before .before .loop .inv .1 .same)),
+)
 
 add-result : tie.Need-add-result Inv-loop μ-loop
 add-result c = omega arith
@@ -44,7 +48,9 @@ same-length : tie.Need-same-length Inv-loop μ-loop
 same-length c = c .before .loop .inv .1 .same
 
 returns : tie.Need-returns Inv-loop μ-loop
-returns c = let e : c .before .loop .k ≡ length (c .before .before .args .s .now) = omega arith in let t : take (c .before .loop .k) (c .before .before .args .s .now) ≡ c .before .before .args .s .now = rw e (take-length _) in rw (← t) (c .before .loop .inv .1)
+returns c = let e : c .before .loop .k ≡ length (c .before .before .args .s .now) = omega arith in
+    let t : take (c .before .loop .k) (c .before .before .args .s .now) ≡ c .before .before .args .s .now = rw e (take-length _) in
+    rw (← t) (c .before .loop .inv .1)
 
 pub put-bytes-spec : {M : Type 1} → statement M
 put-bytes-spec =

@@ -20,13 +20,25 @@ put-requires-2 : tie.Need-put-requires-2
 put-requires-2 c κs = search needs
 
 put-number-requires-2 : tie.Need-put-number-requires-2
-put-number-requires-2 c κs = omega (arith, decimal-length 2 (c .before .before .before .before .before .before .before .before .before .before .before .args .x) (omega (arith, c .before .before .before .before .before .before .before .before .before .before .before .fits .x)), c .before .before .before .before .before .before .before .put .ensures .ends, c .before .before .before .put2 .ensures .ends, c .before .before .before .before .before .before .before .put .ensures .same, c .before .before .before .put2 .ensures .same)
+put-number-requires-2 c κs =
+    let b7 = c .before .before .before .before .before .before .before in let b11 = b7 .before .before .before .before in
+    omega (
+      arith,
+      decimal-length 2 (b11 .args .x) (omega (arith, b11 .fits .x)),
+      b7 .put .ensures .ends,
+      c .before .before .before .put2 .ensures .ends,
+      b7 .put .ensures .same,
+      c .before .before .before .put2 .ensures .same,
+    )
 
 same-length-2 : tie.Need-same-length-2
 same-length-2 c = search needs
 
 returns-2 : tie.Need-returns-2
-returns-2 c = rw (item-later _ _ (c .before .before .before .before .before .before .before .before .before .before .before .before .if1 .left)) (put-put (c .before .before .before .before .before .before .before .before .before .before .put .ensures) (put-put (c .before .before .before .before .before .before .put2 .ensures) (c .before .before .put-number2 .ensures)))
+returns-2 c =
+    let b10 = c .before .before .before .before .before .before .before .before .before .before in let b12 = b10 .before .before in
+    rw (item-later _ _ (b12 .if1 .left)) (put-put (b10 .put .ensures) (put-put (c .before .before .before .before .before .before .put2 .ensures)
+    (c .before .before .put-number2 .ensures)))
 
 pub put-item-spec : {M : Type 1} → statement M
 put-item-spec =

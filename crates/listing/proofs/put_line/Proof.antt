@@ -10,17 +10,38 @@ put-bytes-requires : tie.Need-put-bytes-requires
 put-bytes-requires c κs = search needs
 
 put-number-requires : tie.Need-put-number-requires
-put-number-requires c κs = omega (arith, decimal-fits (c .before .before .before .before .before .before .before .args .n) (omega (arith, c .before .before .before .before .before .before .before .fits .n)), c .before .before .before .put-bytes .ensures .ends, c .before .before .before .put-bytes .ensures .same, c .before .before .before .before .before .before .before .pre)
+put-number-requires c κs =
+    let b7 = c .before .before .before .before .before .before .before in
+    omega (
+      arith,
+      decimal-fits (b7 .args .n) (omega (arith, b7 .fits .n)),
+      c .before .before .before .put-bytes .ensures .ends,
+      c .before .before .before .put-bytes .ensures .same,
+      b7 .pre,
+    )
 
 put-requires : tie.Need-put-requires
-put-requires c κs = omega (arith, decimal-fits (c .before .before .before .before .before .before .before .before .before .before .before .args .n) (omega (arith, c .before .before .before .before .before .before .before .before .before .before .before .fits .n)), c .before .before .before .before .before .before .before .put-bytes .ensures .ends, c .before .before .before .before .before .before .before .put-bytes .ensures .same, c .before .before .before .put-number .ensures .ends, c .before .before .before .put-number .ensures .same, c .before .before .before .before .before .before .before .before .before .before .before .pre)
+put-requires c κs =
+    let b7 = c .before .before .before .before .before .before .before in let b11 = b7 .before .before .before .before in
+    omega (
+      arith,
+      decimal-fits (b11 .args .n) (omega (arith, b11 .fits .n)),
+      b7 .put-bytes .ensures .ends,
+      b7 .put-bytes .ensures .same,
+      c .before .before .before .put-number .ensures .ends,
+      c .before .before .before .put-number .ensures .same,
+      b11 .pre,
+    )
 
 same-length : tie.Need-same-length
 same-length c = search needs
 
 returns : tie.Need-returns
 unfolding numberLine
-returns c = let p = put-put (c .before .before .before .before .before .before .before .before .before .before .put-bytes .ensures) (put-put (c .before .before .before .before .before .before .put-number .ensures) (c .before .before .put .ensures)) in (p, omega (arith, p .ends, line-fits (now (c .before .before .before .before .before .before .before .before .before .before .before .before .before .before .args .name)) (c .before .before .before .before .before .before .before .before .before .before .before .before .before .before .args .n) (omega (arith, c .before .before .before .before .before .before .before .before .before .before .before .before .before .before .fits .n))))
+returns c =
+    let b10 = c .before .before .before .before .before .before .before .before .before .before in let b14 = b10 .before .before .before .before in
+    let p = put-put (b10 .put-bytes .ensures) (put-put (c .before .before .before .before .before .before .put-number .ensures)
+    (c .before .before .put .ensures)) in (p, omega (arith, p .ends, line-fits (now (b14 .args .name)) (b14 .args .n) (omega (arith, b14 .fits .n))))
 
 pub put-line-spec : {M : Type 1} → statement M
 put-line-spec =

@@ -16,7 +16,12 @@ same-length c = search needs
 
 returns : tie.Need-returns
 unfolding refusedLine
-returns c = put-holds (c .before .before .put-line .ensures .0) (omega (arith, c .before .before .before .before .before .before .pre, c .before .before .put-line .ensures .0 .ends, c .before .before .put-line .ensures .1))
+returns c = put-holds (c .before .before .put-line .ensures .0) (omega (
+  arith,
+  c .before .before .before .before .before .before .pre,
+  c .before .before .put-line .ensures .0 .ends,
+  c .before .before .put-line .ensures .1,
+))
 
 pub put-refused-spec : {M : Type 1} → statement M
 put-refused-spec =

@@ -93,7 +93,12 @@ add-result-5 c = search needs
 returns-4 : tie.Need-returns-4
 returns-4 c =
     counted _ _ _ _
-    (rw (c .before .before .before .before .count-part2 .ensures .is, c .before .before .before .count-words .ensures .is, c .before .before .count-bytes .ensures .is, c .count-part3 .ensures .is)
+    (rw (
+      c .before .before .before .before .count-part2 .ensures .is,
+      c .before .before .before .count-words .ensures .is,
+      c .before .before .count-bytes .ensures .is,
+      c .count-part3 .ensures .is,
+    )
     (count-four _ _ _ _ _ _ _ _ _ _ _ (omega arith) (omega arith) (omega arith) (omega arith) (cut _ _ (omega arith))))
 
 pub count-valid-spec : {M : Type 1} → statement M

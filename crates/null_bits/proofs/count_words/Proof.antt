@@ -47,8 +47,11 @@ loop-less c = omega arith
 loop-again : tie.Need-loop-again Inv-loop μ-loop
 loop-again c =
     let a = c .before .before .before .before .args in
-    let k = c .before .before .loop .k in
-    (omega arith, rw (c .before .before .loop .inv .1, c .le64 .ensures) (count-more-word (now (a .map)) (a .i) k (λ j. c .before .before .before .shared-slice-known .given j .fits)))
+    let k = c .before .before .loop .k in (
+      omega arith,
+      rw (c .before .before .loop .inv .1, c .le64 .ensures) (count-more-word (now (a .map)) (a .i) k
+          (λ j. c .before .before .before .shared-slice-known .given j .fits)),
+    )
 
 returns : tie.Need-returns Inv-loop μ-loop
 returns c =

@@ -13,16 +13,24 @@ half-of-requires : tie.Need-half-of-requires
 half-of-requires c κs = search needs
 
 returns : tie.Need-returns
-returns c = let a = c .before .before .before .before .args in let h = c .before .half-of .ensures in cut-negative (widthOf (a .large)) (now (a .offsets)) (a .rows) (a .size) (c .before .before .before .before .pre .0) _ (c .before .before .offset-at .ensures) (omega arith)
+returns c = let a = c .before .before .before .before .args in let h = c .before .half-of .ensures in
+    cut-negative (widthOf (a .large)) (now (a .offsets)) (a .rows) (a .size) (c .before .before .before .before .pre .0) _
+    (c .before .before .offset-at .ensures) (omega arith)
 
 returns-2 : tie.Need-returns-2
-returns-2 c = let a = c .before .before .before .before .before .args in cut-past (widthOf (a .large)) (now (a .offsets)) (a .rows) (a .size) (c .before .before .before .before .before .pre .0) _ (c .before .before .before .offset-at .ensures) (omega arith)
+returns-2 c =
+    let b5 = c .before .before .before .before .before in
+    let a = b5 .args in cut-past (widthOf (a .large)) (now (a .offsets)) (a .rows) (a .size) (b5 .pre .0) _
+    (c .before .before .before .offset-at .ensures) (omega arith)
 
 rises-requires : tie.Need-rises-requires
 rises-requires c κs = search needs
 
 returns-3 : tie.Need-returns-3
-returns-3 c = let a = c .before .before .before .before .before .before .args in let h = c .before .before .before .half-of .ensures in cut-rest (widthOf (a .large)) (now (a .offsets)) (a .rows) (a .size) (c .before .before .before .before .before .before .pre .0) _ _ (c .before .before .before .before .offset-at .ensures) (omega arith) (omega arith) (c .rises .ensures)
+returns-3 c =
+    let b6 = c .before .before .before .before .before .before in
+    let a = b6 .args in let h = c .before .before .before .half-of .ensures in cut-rest (widthOf (a .large)) (now (a .offsets)) (a .rows) (a .size)
+    (b6 .pre .0) _ _ (c .before .before .before .before .offset-at .ensures) (omega arith) (omega arith) (c .rises .ensures)
 
 pub cut-spec : {M : Type 1} → statement M
 cut-spec =

@@ -36,7 +36,12 @@ loop-less : tie.Need-loop-less Inv-loop μ-loop
 loop-less c = omega arith
 
 loop-again : tie.Need-loop-again Inv-loop μ-loop
-loop-again c = let a = c .before .before .before .before .before .before .before .args in (omega arith, below-more (λ (i : ℕ). Begins (now (a .bytes)) (offsetAt (widthOf (a .large)) (now (a .offsets)) i)) _ (c .before .before .before .before .loop .inv .1) (subst (Begins (now (a .bytes))) (c .before .before .offset-at .ensures) (c .before .begins .ensures (not-false _ (c .if1 .left)))))
+loop-again c = let a = c .before .before .before .before .before .before .before .args in (
+  omega arith,
+  below-more (λ (i : ℕ). Begins (now (a .bytes)) (offsetAt (widthOf (a .large)) (now (a .offsets)) i)) _
+      (c .before .before .before .before .loop .inv .1) (subst (Begins (now (a .bytes))) (c .before .before .offset-at .ensures)
+      (c .before .begins .ensures (not-false _ (c .if1 .left)))),
+)
 
 returns-2 : tie.Need-returns-2 Inv-loop μ-loop
 returns-2 c = λ e i h. c .before .loop .inv .1 i (omega arith)

@@ -22,7 +22,8 @@ same-length : tie.Need-same-length
 same-length c = search needs
 
 returns : tie.Need-returns
-returns c = view-null _ _ _ _ _ _ _ _ (sym (c .before .before .before .before .before .valid-at .ensures) ∙ not-true _ (c .before .before .before .before .if1 .taken)) (c .before .before .zero-view .ensures)
+returns c = view-null _ _ _ _ _ _ _ _ (sym (c .before .before .before .before .before .valid-at .ensures)
+    ∙ not-true _ (c .before .before .before .before .if1 .taken)) (c .before .before .zero-view .ensures)
 
 offset-at-requires : tie.Need-offset-at-requires
 offset-at-requires c κs = search needs
@@ -37,13 +38,17 @@ cast-put-view : tie.Need-cast-put-view
 cast-put-view c = search needs
 
 put-view-requires : tie.Need-put-view-requires
-put-view-requires c κs = let a = c .before .before .before .before .before .before .before .before .before .args in let g = cut-most (widthOf (a .large)) (now (a .offsets)) (now (a .bytes)) (a .j) in let e = ap length (c .before .value-part .ensures) in (omega arith, omega arith)
+put-view-requires c κs = let a = c .before .before .before .before .before .before .before .before .before .args in
+    let g = cut-most (widthOf (a .large)) (now (a .offsets)) (now (a .bytes)) (a .j) in let e = ap length (c .before .value-part .ensures) in
+    (omega arith, omega arith)
 
 same-length-2 : tie.Need-same-length-2
 same-length-2 c = search needs
 
 returns-2 : tie.Need-returns-2
-returns-2 c = view-valid _ _ _ _ _ _ _ _ _ _ (sym (c .before .before .before .before .before .before .before .valid-at .ensures) ∙ not-false _ (c .before .before .before .before .before .before .if1 .left)) (c .before .before .before .before .value-part .ensures) (c .before .before .before .before .before .offset-at .ensures) (c .before .before .put-view .ensures)
+returns-2 c = view-valid _ _ _ _ _ _ _ _ _ _ (sym (c .before .before .before .before .before .before .before .valid-at .ensures)
+    ∙ not-false _ (c .before .before .before .before .before .before .if1 .left)) (c .before .before .before .before .value-part .ensures)
+    (c .before .before .before .before .before .offset-at .ensures) (c .before .before .put-view .ensures)
 
 pub put-row-spec : {M : Type 1} → statement M
 put-row-spec =

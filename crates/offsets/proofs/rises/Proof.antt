@@ -27,7 +27,8 @@ offset-at-requires-2 : tie.Need-offset-at-requires-2 Inv-loop μ-loop
 offset-at-requires-2 c κs = omega arith
 
 returns : tie.Need-returns Inv-loop μ-loop
-returns c = rise-not _ _ _ (c .before .before .before .loop .j) (omega arith) (let p = c .before .offset-at2 .ensures in let q = c .before .before .before .loop .inv .1 in omega arith)
+returns c = rise-not _ _ _ (c .before .before .before .loop .j) (omega arith) (let p = c .before .offset-at2 .ensures in
+    let q = c .before .before .before .loop .inv .1 in omega arith)
 
 add-j : tie.Need-add-j Inv-loop μ-loop
 add-j c = omega arith
@@ -36,7 +37,12 @@ loop-less : tie.Need-loop-less Inv-loop μ-loop
 loop-less c = omega arith
 
 loop-again : tie.Need-loop-again Inv-loop μ-loop
-loop-again c = (omega arith, c .before .offset-at2 .ensures, rise-more _ _ _ _ _ (c .before .before .before .loop .inv .1) (c .before .offset-at2 .ensures) (omega arith) (c .before .before .before .loop .inv .2))
+loop-again c = (
+  omega arith,
+  c .before .offset-at2 .ensures,
+  rise-more _ _ _ _ _ (c .before .before .before .loop .inv .1)
+      (c .before .offset-at2 .ensures) (omega arith) (c .before .before .before .loop .inv .2),
+)
 
 returns-2 : tie.Need-returns-2 Inv-loop μ-loop
 returns-2 c = let e : c .before .loop .j ≡ c .before .before .before .before .args .rows = omega arith in rw (← e) (sym (c .before .loop .inv .2))

@@ -18,7 +18,8 @@ of-kind-requires : tie.Need-of-kind-requires
 of-kind-requires c κs = search needs
 
 returns-2 : tie.Need-returns-2
-returns-2 c = kind-valid _ _ _ _ _ _ _ _ _ (sym (c .before .before .before .valid-at .ensures) ∙ not-false _ (c .before .before .if1 .left)) (c .before .value-part .ensures) (c .of-kind .ensures)
+returns-2 c = kind-valid _ _ _ _ _ _ _ _ _ (sym (c .before .before .before .valid-at .ensures) ∙ not-false _ (c .before .before .if1 .left))
+    (c .before .value-part .ensures) (c .of-kind .ensures)
 
 pub row-of-kind-spec : {M : Type 1} → statement M
 row-of-kind-spec =

@@ -14,7 +14,8 @@ is-text-requires : tie.Need-is-text-requires
 is-text-requires c κs = search needs
 
 returns : tie.Need-returns
-returns c = let a = c .before .before .before .before .args in λ e j h. binary-all (a .kind) (cutAt (widthOf (a .large)) (now (a .offsets)) (now (a .bytes)) j) (sym (c .before .is-text .ensures) ∙ not-true _ (c .if1 .taken))
+returns c = let a = c .before .before .before .before .args in λ e j h. binary-all (a .kind) (cutAt (widthOf (a .large)) (now (a .offsets))
+    (now (a .bytes)) j) (sym (c .before .is-text .ensures) ∙ not-true _ (c .if1 .taken))
 
 is-utf8-requires : tie.Need-is-utf8-requires
 is-utf8-requires c κs = search needs
@@ -26,7 +27,11 @@ on-bounds-requires : tie.Need-on-bounds-requires
 on-bounds-requires c κs = search needs
 
 returns-3 : tie.Need-returns-3
-returns-3 c = let a = c .before .before .before .before .before .before .before .args in let p = c .before .before .before .before .before .before .before .pre in λ e j h. text-row (widthOf (a .large)) (now (a .offsets)) (now (a .bytes)) (a .kind) j (sym (c .before .before .is-utf8 .ensures) ∙ not-false _ (c .before .if2 .left)) (p .2 j h) (c .on-bounds .ensures e j (omega arith)) (c .on-bounds .ensures e (j + 1) (omega arith))
+returns-3 c =
+    let b7 = c .before .before .before .before .before .before .before in
+    let a = b7 .args in let p = b7 .pre in λ e j h. text-row (widthOf (a .large)) (now (a .offsets)) (now (a .bytes)) (a .kind) j
+    (sym (c .before .before .is-utf8 .ensures) ∙ not-false _ (c .before .if2 .left)) (p .2 j h) (c .on-bounds .ensures e j (omega arith))
+    (c .on-bounds .ensures e (j + 1) (omega arith))
 
 pub whole-spec : {M : Type 1} → statement M
 whole-spec =

@@ -10,7 +10,8 @@ use Rattle.offsets.proofs.write.Statement.{statement}
 use Rattle.offsets.proofs.write.Tie as tie
 
 abbrev Inv-loop : tie.InvT-loop
-Inv-loop newviews₀ offsets large bytes nulls mapped rows j₀ newviews j = (j ≤ rows) × (length newviews ≡ length newviews₀) × (newviews ≡ putRows newviews₀ (rowViewOf (widthOf large) (source offsets bytes nulls mapped)) j)
+Inv-loop newviews₀ offsets large bytes nulls mapped rows j₀ newviews j = (j ≤ rows) × (length newviews ≡ length newviews₀)
+    × (newviews ≡ putRows newviews₀ (rowViewOf (widthOf large) (source offsets bytes nulls mapped)) j)
 
 abbrev μ-loop : tie.MeasureT-loop
 μ-loop newviews₀ offsets large bytes nulls mapped rows j₀ newviews j = rows - j
@@ -19,7 +20,8 @@ loop-holds : tie.Need-loop-holds Inv-loop μ-loop
 loop-holds c = (omega arith, refl, rows-none _ _)
 
 put-row-requires : tie.Need-put-row-requires Inv-loop μ-loop
-put-row-requires c κs = let p = c .before .before .before .before .before .before .before .pre in (p .0 .cut (c .before .before .loop .j) (omega arith), (λ e. omega (arith, p .0 .map e)), omega arith, omega arith, omega arith)
+put-row-requires c κs = let p = c .before .before .before .before .before .before .before .pre in
+    (p .0 .cut (c .before .before .loop .j) (omega arith), (λ e. omega (arith, p .0 .map e)), omega arith, omega arith, omega arith)
 
 add-j : tie.Need-add-j Inv-loop μ-loop
 add-j c = omega arith

@@ -35,10 +35,12 @@ by-word-requires c κs = search needs
 
 returns : tie.Need-returns Inv-loop μ-loop
 returns c =
-    let s = c .before .before .before .before .before .before .before .before .before .before .args in
+    let b10 = c .before .before .before .before .before .before .before .before .before .before in
+    let s = b10 .args in
     let l = c .before .before .before .before .before .before .before .loop in
     c .by-word .ensures
-    ∙ byte-decides (now (s .a)) (now (s .b)) (l .i) _ _ (omega arith) (omega arith) (l .inv .2) (c .before .before .before .before .wide .ensures .0) (c .before .before .wide2 .ensures .0) (c .before .if1 .taken)
+    ∙ byte-decides (now (s .a)) (now (s .b)) (l .i) _ _ (omega arith) (omega arith) (l .inv .2) (c .before .before .before .before .wide .ensures .0)
+    (c .before .before .wide2 .ensures .0) (c .before .if1 .taken)
 
 add-i : tie.Need-add-i Inv-loop μ-loop
 add-i c = search needs
@@ -48,9 +50,14 @@ loop-less c = search needs
 
 loop-again : tie.Need-loop-again Inv-loop μ-loop
 loop-again c =
-    let s = c .before .before .before .before .before .before .before .before .before .args in
-    let l = c .before .before .before .before .before .before .loop in
-    (search needs, search needs, byte-same (now (s .a)) (now (s .b)) (l .i) _ _ (l .inv .2) (c .before .before .before .wide .ensures .0) (c .before .wide2 .ensures .0) (c .if1 .left))
+    let b9 = c .before .before .before .before .before .before .before .before .before in
+    let s = b9 .args in
+    let l = c .before .before .before .before .before .before .loop in (
+      search needs,
+      search needs,
+      byte-same (now (s .a)) (now (s .b)) (l .i) _ _ (l .inv .2) (c .before .before .before .wide .ensures .0)
+          (c .before .wide2 .ensures .0) (c .if1 .left),
+    )
 
 by-word-requires-2 : tie.Need-by-word-requires-2 Inv-loop μ-loop
 by-word-requires-2 c κs = search needs

@@ -45,8 +45,12 @@ loop-less c = search needs
 loop-again : tie.Need-loop-again Inv-loop μ-loop
 loop-again c =
     let s = c .before .before .before .before .before .before .before .args in
-    let l = c .before .before .before .before .loop in
-    (search needs, le-same (now (s .a)) (now (s .b)) (l .i) 8 _ _ (λ j. c .before .before .before .before .before .before .shared-slice-known .given j .fits) (λ j. c .before .before .before .before .before .shared-slice-known2 .given j .fits) (l .inv .1) (c .before .before .le64 .ensures) (c .before .le642 .ensures) (c .if1 .left))
+    let l = c .before .before .before .before .loop in (
+      search needs,
+      le-same (now (s .a)) (now (s .b)) (l .i) 8 _ _ (λ j. c .before .before .before .before .before .before .shared-slice-known .given
+          j .fits) (λ j. c .before .before .before .before .before .shared-slice-known2 .given j .fits) (l .inv .1) (c .before .before .le64 .ensures)
+          (c .before .le642 .ensures) (c .if1 .left),
+    )
 
 sub-le64 : tie.Need-sub-le64 Inv-loop μ-loop
 sub-le64 c = search needs
@@ -64,7 +68,10 @@ returns-2 : tie.Need-returns-2 Inv-loop μ-loop
 returns-2 c =
     let s = c .before .before .before .before .before .before .args in
     let l = c .before .before .before .loop in
-    same-is _ _ _ (λ e. same-all (now (s .a)) (now (s .b)) (s .n) (omega arith) (omega arith) (λ k h. le-same (now (s .a)) (now (s .b)) (s .n - 8) 8 _ _ (λ j. c .before .before .before .before .before .shared-slice-known .given j .fits) (λ j. c .before .before .before .before .shared-slice-known2 .given j .fits) (λ j g. l .inv .1 j (omega arith)) (c .before .le643 .ensures) (c .le644 .ensures) (eqb-true _ _ e) k (omega arith)))
+    same-is _ _ _ (λ e. same-all (now (s .a)) (now (s .b)) (s .n) (omega arith) (omega arith) (λ k h. le-same (now (s .a)) (now (s .b)) (s .n - 8) 8 _
+    _ (λ j. c .before .before .before .before .before .shared-slice-known .given j .fits)
+    (λ j. c .before .before .before .before .shared-slice-known2 .given j .fits) (λ j g. l .inv .1 j (omega arith)) (c .before .le643 .ensures)
+    (c .le644 .ensures) (eqb-true _ _ e) k (omega arith)))
     (λ e. eq-eqb _ _ (c .before .le643 .ensures ∙ ap (λ (x : List ℕ). wordAt x (s .n - 8) 8) e ∙ sym (c .le644 .ensures)))
 
 pub same-words-spec : {M : Type 1} → statement M

@@ -17,7 +17,8 @@ one-of-requires c κs = search needs
 
 cut-requires : tie.Need-cut-requires
 cut-requires c κs =
-    let m = one-most (c .before .before .before .before .before .before .before .before .before .before .before .before .args .count) _ (c .before .one-of .ensures) in
+    let b12 = c .before .before .before .before .before .before .before .before .before .before .before .before in
+    let m = one-most (b12 .args .count) _ (c .before .one-of .ensures) in
     (search (needs, m), search (needs, m))
 
 place-requires : tie.Need-place-requires
@@ -34,9 +35,12 @@ same-length-3 c = search needs
 
 returns : tie.Need-returns
 returns c =
-    let a = c .before .before .before .before .before .before .before .before .before .before .before .before .before .before .before .before .before .before .before .before .before .before .args in
-    λ t e. tabled (source (now (a .offsets)) (now (a .bytes)) (now (a .nulls)) (a .how .mapped)) (a .how .kind) (now (a .newviews)) (now (a .newbytes)) (now (a .newnulls))
-    t (a .count) (c .before .before .before .before .before .before .before .before .before .before .before .one-of .result) (c .place .result) (c .before .before .before .before .before .before .before .before .before .cut .result) _ _ _ e (c .before .before .before .before .before .before .before .before .before .before .before .one-of .ensures) (c .before .before .before .before .before .before .before .before .before .cut .ensures) (c .place .ensures)
+    let b9 = c .before .before .before .before .before .before .before .before .before in let b11 = b9 .before .before in
+    let b22 = b11 .before .before .before .before .before .before .before .before .before .before .before in
+    let a = b22 .args in
+    λ t e. tabled (source (now (a .offsets)) (now (a .bytes)) (now (a .nulls)) (a .how .mapped)) (a .how .kind) (now (a .newviews))
+    (now (a .newbytes)) (now (a .newnulls))
+    t (a .count) (b11 .one-of .result) (c .place .result) (b9 .cut .result) _ _ _ e (b11 .one-of .ensures) (b9 .cut .ensures) (c .place .ensures)
 
 pub convert-with-spec : {M : Type 1} → statement M
 convert-with-spec =

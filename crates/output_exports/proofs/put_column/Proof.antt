@@ -14,10 +14,13 @@ write-column-requires : tie.Need-write-column-requires
 write-column-requires c κs = search needs
 
 returns : tie.Need-returns
-returns c = accepted-yes (c .before .before .before .before .args .why) (c .before .before .before .before .args .why) _ (now (c .before .before .before .before .args .out)) _ refl (sym (c .before .before .before .is-accepted .ensures) ∙ c .before .before .if1 .taken) (c .write-column .ensures)
+returns c = accepted-yes (c .before .before .before .before .args .why) (c .before .before .before .before .args .why) _
+    (now (c .before .before .before .before .args .out)) _ refl (sym (c .before .before .before .is-accepted .ensures)
+    ∙ c .before .before .if1 .taken) (c .write-column .ensures)
 
 returns-2 : tie.Need-returns-2
-returns-2 c = accepted-no (c .before .before .args .why) (c .before .before .args .why) (numbersOf (c .before .before .args .c)) _ _ refl (sym (c .before .is-accepted .ensures) ∙ c .if1 .left) refl
+returns-2 c = accepted-no (c .before .before .args .why) (c .before .before .args .why) (numbersOf (c .before .before .args .c)) _ _ refl
+    (sym (c .before .is-accepted .ensures) ∙ c .if1 .left) refl
 
 pub put-column-spec : {M : Type 1} → statement M
 put-column-spec = tie.close (tie.spec is-accepted-requires write-column-requires returns returns-2)

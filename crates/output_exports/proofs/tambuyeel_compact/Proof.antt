@@ -36,11 +36,15 @@ same-length-5 c = search needs
 
 returns : tie.Need-returns
 returns c =
-    let a = c .before .before .before .before .before .before .before .before .before .before .before .before .before .before .before .before .before .before .before .before .before .before .before .before .before .before .before .before .before .before .before .args in
-    let did = c .before .before .before .before .before .before .before .before .before .before .before .before .before .before .compact in
-    compacts (a .most) (lent (now (a .views)) (now (a .bytes)) (now (a .starts)) (now (a .lens)) (now (a .nulls))) (columnOf (now (a .column))) (c .before .before .before .before .before .before .before .before .before .before .before .before .before .before .before .before .before .before .before .before .column-of .result)
+    let b14 = c .before .before .before .before .before .before .before .before .before .before .before .before .before .before in
+    let b20 = b14 .before .before .before .before .before .before in
+    let b31 = b20 .before .before .before .before .before .before .before .before .before .before .before in
+    let a = b31 .args in
+    let did = b14 .compact in
+    compacts (a .most) (lent (now (a .views)) (now (a .bytes)) (now (a .starts)) (now (a .lens)) (now (a .nulls))) (columnOf (now (a .column)))
+    (b20 .column-of .result)
     (now (a .newviews)) (now (a .newbytes)) (now (a .newstarts)) (now (a .newlens)) (now (a .newnulls)) (now (a .newcolumn))
-    (did .result) (c .told-why .result) _ _ _ _ _ _ (c .before .before .before .before .before .before .before .before .before .before .before .before .before .before .before .before .before .before .before .before .column-of .ensures) (did .ensures) (c .before .put-column .ensures) (c .told-why .ensures)
+    (did .result) (c .told-why .result) _ _ _ _ _ _ (b20 .column-of .ensures) (did .ensures) (c .before .put-column .ensures) (c .told-why .ensures)
 
 pub tambuyeel-compact-spec : {M : Type 1} → statement M
 tambuyeel-compact-spec =

@@ -41,11 +41,14 @@ same-length-5 c = search needs
 
 returns : tie.Need-returns
 returns c =
-    let a = c .before .before .before .before .before .before .before .before .before .before .before .before .before .before .before .before .before .before .before .before .before .before .before .before .before .before .before .before .before .args in
-    let did = c .before .before .before .before .before .before .before .before .before .before .before .before .before .before .from-offsets in
-    converts (source (now (a .offsets)) (now (a .bytes)) (now (a .nulls)) (not (eqb (a .mapped) 0))) (kindOf (eqb (a .kind) 0)) (c .before .before .before .before .before .before .before .before .before .before .before .before .before .before .before .before .before .before .before .before .kind-of .result)
+    let b14 = c .before .before .before .before .before .before .before .before .before .before .before .before .before .before in
+    let b20 = b14 .before .before .before .before .before .before in
+    let b29 = b20 .before .before .before .before .before .before .before .before .before in
+    let a = b29 .args in
+    let did = b14 .from-offsets in
+    converts (source (now (a .offsets)) (now (a .bytes)) (now (a .nulls)) (not (eqb (a .mapped) 0))) (kindOf (eqb (a .kind) 0)) (b20 .kind-of .result)
     (now (a .newviews)) (now (a .newbytes)) (now (a .newstarts)) (now (a .newlens)) (now (a .newnulls)) (now (a .newcolumn))
-    (did .result) (c .why-number .result) _ _ _ _ _ _ (c .before .before .before .before .before .before .before .before .before .before .before .before .before .before .before .before .before .before .before .before .kind-of .ensures) (did .ensures) (c .before .put-column .ensures) (c .why-number .ensures)
+    (did .result) (c .why-number .result) _ _ _ _ _ _ (b20 .kind-of .ensures) (did .ensures) (c .before .put-column .ensures) (c .why-number .ensures)
 
 pub tambuyeel-from-offsets-spec : {M : Type 1} → statement M
 tambuyeel-from-offsets-spec =

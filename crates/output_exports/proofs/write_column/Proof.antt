@@ -35,7 +35,8 @@ same-length c = simp length-set refl
 returns : tie.Need-returns
 returns c =
     let a = c .before .before .before .args in
-    numbers-set (now (a .out)) (a .c) (c .before .kind-number .result) (c .flag .result) (c .before .before .before .pre) (c .before .kind-number .ensures) (c .flag .ensures)
+    numbers-set (now (a .out)) (a .c) (c .before .kind-number .result) (c .flag .result) (c .before .before .before .pre)
+    (c .before .kind-number .ensures) (c .flag .ensures)
 
 pub write-column-spec : {M : Type 1} → statement M
 write-column-spec =

@@ -22,16 +22,20 @@ returns-2 : tie.Need-returns-2
 returns-2 c = located-no _ _ _ Row (value-past _ _ _ (sym (c .before .before .fits2 .ensures) ∙ not-false _ (c .before .if1 .left)) (c .if2 .taken))
 
 add-at : tie.Need-add-at
-add-at c = let g = fits-gives _ _ _ _ _ _ (sym (c .before .before .before .fits2 .ensures) ∙ not-false _ (c .before .before .if1 .left)) in omega (arith, row-limit-small)
+add-at c = let g = fits-gives _ _ _ _ _ _ (sym (c .before .before .before .fits2 .ensures) ∙ not-false _ (c .before .before .if1 .left)) in
+    omega (arith, row-limit-small)
 
 spot-at-requires : tie.Need-spot-at-requires
-spot-at-requires c κs = fits-row _ _ _ _ _ _ _ (sym (c .before .before .before .fits2 .ensures) ∙ not-false _ (c .before .before .if1 .left)) (c .before .if2 .left)
+spot-at-requires c κs = fits-row _ _ _ _ _ _ _ (sym (c .before .before .before .fits2 .ensures) ∙ not-false _ (c .before .before .if1 .left))
+    (c .before .if2 .left)
 
 judged-requires : tie.Need-judged-requires
 judged-requires c κs = search needs
 
 returns-3 : tie.Need-returns-3
-returns-3 c = located-is _ _ _ (sym (c .before .before .before .before .before .fits2 .ensures) ∙ not-false _ (c .before .before .before .before .if1 .left)) (c .before .before .before .if2 .left) _ _ (c .before .spot-at .ensures ∙ spot-bare _ _ _ _ _ _ _ _) (c .judged .ensures)
+returns-3 c = located-is _ _ _ (sym (c .before .before .before .before .before .fits2 .ensures)
+    ∙ not-false _ (c .before .before .before .before .if1 .left)) (c .before .before .before .if2 .left) _ _ (c .before .spot-at .ensures
+    ∙ spot-bare _ _ _ _ _ _ _ _) (c .judged .ensures)
 
 pub locate-spec : {M : Type 1} → statement M
 locate-spec =

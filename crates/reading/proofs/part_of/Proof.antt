@@ -13,7 +13,11 @@ part-of-requires : tie.Need-part-of-requires
 part-of-requires c κs = at-lies _ _ (0, 0) (0, 0) (0, 0) _ _ (c .before .l .given .1) (c .before .before .before .before .before .pre)
 
 returns : tie.Need-returns
-returns c = (c .part-of .ensures .0 ∙ at-bytes _ _ (0, 0) (0, 0) (0, 0) _ _ (c .before .before .l .given .1), c .part-of .ensures .1 ∙ at-points [] [] _ _ (0, 0) _ _ (c .before .before .l .given .1))
+returns c = (
+  c .part-of .ensures .0 ∙ at-bytes _ _ (0, 0) (0, 0) (0, 0) _ _ (c .before .before .l .given .1),
+  c .part-of .ensures .1
+      ∙ at-points [] [] _ _ (0, 0) _ _ (c .before .before .l .given .1),
+)
 
 enum-told : tie.Need-enum-told
 enum-told c = search needs

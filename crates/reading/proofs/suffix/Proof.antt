@@ -21,7 +21,11 @@ part-result-end c = search needs
 
 returns : tie.Need-returns
 unfolding suffixAt
-returns c = (rw (← c .before .before .value .ensures .0) (suffix-no _ _ (omega arith)), starts-after _ _ _ (c .before .before .value .ensures .1) _ 0 _ refl (rw (← c .before .before .value .ensures .0) (skip-none _ _ (omega arith))))
+returns c = (
+  rw (← c .before .before .value .ensures .0) (suffix-no _ _ (omega arith)),
+  starts-after _ _ _ (c .before .before .value .ensures .1) _ 0
+      _ refl (rw (← c .before .before .value .ensures .0) (skip-none _ _ (omega arith))),
+)
 
 sub-result-2 : tie.Need-sub-result-2
 sub-result-2 c = search needs
@@ -34,7 +38,11 @@ part-result-end-2 c = search needs
 
 returns-2 : tie.Need-returns-2
 unfolding suffixAt
-returns-2 c = (rw (← c .before .before .value .ensures .0) (suffix-yes _ _ (omega arith)), starts-after _ _ _ (c .before .before .value .ensures .1) _ _ _ refl (rw (← c .before .before .value .ensures .0) (skip-some _ _ (omega arith))))
+returns-2 c = (
+  rw (← c .before .before .value .ensures .0) (suffix-yes _ _ (omega arith)),
+  starts-after _ _ _ (c .before .before .value .ensures .1) _
+      _ _ refl (rw (← c .before .before .value .ensures .0) (skip-some _ _ (omega arith))),
+)
 
 pub suffix-spec : {M : Type 1} → statement M
 suffix-spec =

@@ -12,7 +12,8 @@ use Rattle.reading.proofs.sum_valid.Statement.{statement}
 use Rattle.reading.proofs.sum_valid.Tie as tie
 
 abbrev Inv-loop : tie.InvT-loop
-Inv-loop views nulls mapped first rows sum₀ k₀ sum k = (k ≤ rows) × ((sum ≡ bytesLen (buffers views [] [] nulls) (rowsOnly mapped first) k) × (sum ≤ 4294967296 * k))
+Inv-loop views nulls mapped first rows sum₀ k₀ sum k = (k ≤ rows) × ((sum ≡ bytesLen (buffers views [] [] nulls) (rowsOnly mapped first) k)
+    × (sum ≤ 4294967296 * k))
 
 abbrev μ-loop : tie.MeasureT-loop
 μ-loop views nulls mapped first rows sum₀ k₀ sum k = rows - k

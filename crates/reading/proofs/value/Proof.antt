@@ -12,7 +12,11 @@ part-of-requires : tie.Need-part-of-requires
 part-of-requires c κs = located-lies _ _ _ _ _ _ _ (c .locate .ensures)
 
 returns : tie.Need-returns
-returns c = (c .part-of .ensures .0 ∙ located-bytes _ _ _ _ _ _ _ (c .before .locate .ensures), located-points _ _ _ _ _ _ _ (c .before .locate .ensures) (c .part-of .ensures .1))
+returns c = (
+  c .part-of .ensures .0 ∙ located-bytes _ _ _ _ _ _ _ (c .before .locate .ensures),
+  located-points _ _ _ _ _ _ _
+      (c .before .locate .ensures) (c .part-of .ensures .1),
+)
 
 pub value-spec : {M : Type 1} → statement M
 value-spec = tie.close (tie.spec locate-requires part-of-requires returns)

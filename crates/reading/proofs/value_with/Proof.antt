@@ -12,7 +12,11 @@ part-of-requires : tie.Need-part-of-requires
 part-of-requires c κs = c .locate-with .ensures .0
 
 returns : tie.Need-returns
-returns c = λ table sees. (c .part-of .ensures .0 ∙ located-bytes _ _ _ _ _ _ _ (c .before .locate-with .ensures .1 table sees), located-points _ _ _ _ _ _ _ (c .before .locate-with .ensures .1 table sees) (c .part-of .ensures .1))
+returns c = λ table sees. (
+  c .part-of .ensures .0 ∙ located-bytes _ _ _ _ _ _ _ (c .before .locate-with .ensures .1 table sees),
+  located-points _ _ _
+      _ _ _ _ (c .before .locate-with .ensures .1 table sees) (c .part-of .ensures .1),
+)
 
 pub value-with-spec : {M : Type 1} → statement M
 value-with-spec = tie.close (tie.spec locate-with-requires part-of-requires returns)

@@ -15,10 +15,16 @@ finish-requires : tie.Need-finish-requires
 finish-requires c κs = search needs
 
 same-length : tie.Need-same-length
-same-length c = c .before .before .before .before .before .before .before .before .before .before .before .before .before .before .before .before .before .before .before .before .before .before .before .before .before .before .add-lines .kept .1 .0
+same-length c =
+    let b26 = c .before .before .before .before .before .before .before .before .before .before .before .before .before .before .before .before
+    .before .before .before .before .before .before .before .before .before .before in
+    b26 .add-lines .kept .1 .0
 
 same-length-2 : tie.Need-same-length-2
-same-length-2 c = c .before .before .before .before .before .before .before .before .before .before .before .before .before .before .before .before .before .before .before .before .before .before .before .before .before .before .add-lines .kept .1 .1 .0
+same-length-2 c =
+    let b26 = c .before .before .before .before .before .before .before .before .before .before .before .before .before .before .before .before
+    .before .before .before .before .before .before .before .before .before .before in
+    b26 .add-lines .kept .1 .1 .0
 
 same-length-3 : tie.Need-same-length-3
 same-length-3 c = search needs
@@ -30,10 +36,22 @@ same-length-5 : tie.Need-same-length-5
 same-length-5 c = search needs
 
 same-length-6 : tie.Need-same-length-6
-same-length-6 c = c .before .before .before .before .before .before .before .finish .kept .1 .1 .1 .1 .1 .1 .0 ∙ (c .before .before .before .before .before .before .before .before .before .before .before .before .before .before .before .before .before .before .before .before .before .before .before .before .before .before .add-lines .kept .1 .1 .1 .1 .1 .1 .0 ∙ c .before .before .before .before .before .before .before .before .before .before .before .before .before .before .before .before .before .before .before .before .before .before .before .before .before .before .before .before .before .before .before .before .before .before .before .before .start .kept .1 .0)
+same-length-6 c =
+    let b26 = c .before .before .before .before .before .before .before .before .before .before .before .before .before .before .before .before
+    .before .before .before .before .before .before .before .before .before .before in
+    let b36 = b26 .before .before .before .before .before .before .before .before .before .before in
+    c .before .before .before .before .before .before .before .finish .kept .1 .1 .1 .1 .1 .1 .0 ∙ (b26 .add-lines .kept .1 .1 .1 .1 .1 .1 .0
+    ∙ b36 .start .kept .1 .0)
 
 returns : tie.Need-returns
-returns c = let a = c .before .before .before .before .before .before .before .before .before .before .before .before .before .before .before .before .before .before .before .before .before .before .before .before .before .before .before .before .before .before .before .before .before .before .before .before .before .before .before .before .before .before .before .before .before .args in built-finished (now (a .input)) (now (a .views)) (now (a .bytes)) (now (a .starts)) (now (a .lens)) (now (a .nulls)) (now (a .places)) (c .before .before .before .before .before .before .before .before .before .before .before .before .before .before .before .before .before .before .before .before .before .before .before .before .before .before .before .before .before .before .before .before .before .before .before .before .start .ensures .0) (c .before .before .before .before .before .before .before .before .before .before .before .before .before .before .before .before .before .before .before .before .before .before .before .before .before .before .before .before .before .before .before .before .before .before .before .before .start .ensures .1) (c .before .before .before .before .before .before .before .before .before .before .before .before .before .before .before .before .before .before .before .before .before .before .before .before .before .before .add-lines .ensures) (c .before .before .before .before .before .before .before .finish .ensures)
+returns c =
+    let b26 = c .before .before .before .before .before .before .before .before .before .before .before .before .before .before .before .before
+    .before .before .before .before .before .before .before .before .before .before in
+    let b36 = b26 .before .before .before .before .before .before .before .before .before .before in
+    let b45 = b36 .before .before .before .before .before .before .before .before .before in
+    let a = b45 .args in built-finished (now (a .input)) (now (a .views)) (now (a .bytes)) (now (a .starts)) (now (a .lens)) (now (a .nulls))
+    (now (a .places)) (b36 .start .ensures .0) (b36 .start .ensures .1) (b26 .add-lines .ensures)
+    (c .before .before .before .before .before .before .before .finish .ensures)
 
 pub build-spec : {M : Type 1} → statement M
 build-spec =

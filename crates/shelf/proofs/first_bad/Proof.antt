@@ -40,7 +40,11 @@ add-result : tie.Need-add-result Inv-loop μ-loop
 add-result c = omega arith
 
 returns : tie.Need-returns Inv-loop μ-loop
-returns c = let s = c .before .before .before .before .before .before .before .before .args .s .now in sym (bad-here _ _ _ (ap isBad (sym (c .before .before .says .ensures)) ∙ (sym (c .before .bad .ensures) ∙ c .if1 .taken))) ∙ (ap (firstBad (c .before .before .before .before .before .before .loop .n)) (sym (line-first s (c .before .before .before .before .before .before .loop .at) (c .before .before .before .before .line-end .result) (omega arith) (c .before .before .before .before .line-end .ensures .0))) ∙ c .before .before .before .before .before .before .loop .inv .2)
+returns c =
+    let b6 = c .before .before .before .before .before .before in let b8 = b6 .before .before in
+    let s = b8 .args .s .now in sym (bad-here _ _ _ (ap isBad (sym (c .before .before .says .ensures)) ∙ (sym (c .before .bad .ensures)
+    ∙ c .if1 .taken))) ∙ (ap (firstBad (b6 .loop .n)) (sym (line-first s (b6 .loop .at) (c .before .before .before .before .line-end .result)
+    (omega arith) (c .before .before .before .before .line-end .ensures .0))) ∙ b6 .loop .inv .2)
 
 add-n : tie.Need-add-n Inv-loop μ-loop
 add-n c = omega arith
@@ -52,10 +56,20 @@ loop-less : tie.Need-loop-less Inv-loop μ-loop
 loop-less c = omega arith
 
 loop-again : tie.Need-loop-again Inv-loop μ-loop
-loop-again c = let s = c .before .before .before .before .before .before .before .before .before .args .s .now in (omega arith, omega arith, sym (bad-later _ _ _ (ap isBad (sym (c .before .before .before .says .ensures)) ∙ (sym (c .before .before .bad .ensures) ∙ c .before .if1 .left))) ∙ (ap (firstBad (c .before .before .before .before .before .before .before .loop .n)) (sym (line-next s (c .before .before .before .before .before .before .before .loop .at) (c .before .before .before .before .before .line-end .result) (c .after .result) (omega arith) (c .before .before .before .before .before .line-end .ensures .0) (c .after .ensures .2) (c .after .ensures .3))) ∙ c .before .before .before .before .before .before .before .loop .inv .2))
+loop-again c =
+    let b5 = c .before .before .before .before .before in let b7 = b5 .before .before in let b9 = b7 .before .before in
+    let s = b9 .args .s .now in (
+      omega arith,
+      omega arith,
+      sym (bad-later _ _ _ (ap isBad (sym (c .before .before .before .says .ensures))
+          ∙ (sym (c .before .before .bad .ensures) ∙ c .before .if1 .left)))
+          ∙ (ap (firstBad (b7 .loop .n)) (sym (line-next s (b7 .loop .at) (b5 .line-end .result) (c .after .result) (omega arith)
+          (b5 .line-end .ensures .0) (c .after .ensures .2) (c .after .ensures .3))) ∙ b7 .loop .inv .2),
+    )
 
 returns-2 : tie.Need-returns-2 Inv-loop μ-loop
-returns-2 c = let s = c .before .before .before .args .s .now in sym (bad-none (c .before .loop .n)) ∙ (ap (firstBad (c .before .loop .n)) (sym (line-end s (c .before .loop .at) (omega arith))) ∙ c .before .loop .inv .2)
+returns-2 c = let s = c .before .before .before .args .s .now in sym (bad-none (c .before .loop .n))
+    ∙ (ap (firstBad (c .before .loop .n)) (sym (line-end s (c .before .loop .at) (omega arith))) ∙ c .before .loop .inv .2)
 
 pub first-bad-spec : {M : Type 1} → statement M
 first-bad-spec =

@@ -32,10 +32,12 @@ same-requires-2 : tie.Need-same-requires-2
 same-requires-2 c κs = search needs
 
 returns-3 : tie.Need-returns-3
-returns-3 c = says-null _ (sym (c .before .before .before .before .same .ensures) ∙ c .before .before .before .if2 .left) (sym (c .before .same2 .ensures) ∙ c .if3 .taken)
+returns-3 c = says-null _ (sym (c .before .before .before .before .same .ensures) ∙ c .before .before .before .if2 .left)
+    (sym (c .before .same2 .ensures) ∙ c .if3 .taken)
 
 returns-4 : tie.Need-returns-4
-returns-4 c = says-bad _ (sym (c .before .before .before .before .same .ensures) ∙ c .before .before .before .if2 .left) (sym (c .before .same2 .ensures) ∙ c .if3 .left)
+returns-4 c = says-bad _ (sym (c .before .before .before .before .same .ensures) ∙ c .before .before .before .if2 .left)
+    (sym (c .before .same2 .ensures) ∙ c .if3 .left)
 
 pub says-spec : {M : Type 1} → statement M
 says-spec =

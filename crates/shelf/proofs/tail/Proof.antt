@@ -18,7 +18,8 @@ part-result-end : tie.Need-part-result-end
 part-result-end c = search needs
 
 returns : tie.Need-returns
-returns c = let l = c .before .before .args .line .now in let h : length l ≤ 5 = omega arith in rw (drop-length l, drop-of-length-le l h) (take-all (length l - length l) [] (omega arith))
+returns c = let l = c .before .before .args .line .now in let h : length l ≤ 5 = omega arith in rw (drop-length l, drop-of-length-le l h)
+    (take-all (length l - length l) [] (omega arith))
 
 part-result-start-2 : tie.Need-part-result-start-2
 part-result-start-2 c = search needs

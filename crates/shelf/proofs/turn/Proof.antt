@@ -45,7 +45,12 @@ same-length-6 : tie.Need-same-length-6
 same-length-6 c = search needs
 
 returns : tie.Need-returns
-returns c = let a = c .before .before .before .before .before .before .before .before .before .before .before .before .before .before .before .before .before .before .before .before .before .before .before .before .before .before .before .before .before .before .before .args in added-value (a .s) (now (a .views)) (now (a .bytes)) (now (a .starts)) (now (a .lens)) (now (a .nulls)) (now (a .places)) (now (a .line)) _ (sym (c .before .before .before .before .before .before .before .before .before .before .before .before .before .before .before .before .before .before .before .before .before .before .before .says .ensures) ∙ c .before .before .before .before .before .before .before .before .before .before .before .before .before .before .before .before .before .before .before .before .before .enum-told .given .1) (c .before .before .before .before .before .before .before .before .before .before .before .before .before .before .tail .ensures) (c .before .before .before .before .before .before .before .before .before .before .before .before .before .append-value .ensures)
+returns c =
+    let b13 = c .before .before .before .before .before .before .before .before .before .before .before .before .before in let b14 = b13 .before in
+    let b21 = b14 .before .before .before .before .before .before .before in let b23 = b21 .before .before in
+    let b31 = b23 .before .before .before .before .before .before .before .before in
+    let a = b31 .args in added-value (a .s) (now (a .views)) (now (a .bytes)) (now (a .starts)) (now (a .lens)) (now (a .nulls)) (now (a .places))
+    (now (a .line)) _ (sym (b23 .says .ensures) ∙ b21 .enum-told .given .1) (b14 .tail .ensures) (b13 .append-value .ensures)
 
 same-length-7 : tie.Need-same-length-7
 same-length-7 c = search needs
@@ -66,7 +71,11 @@ same-length-12 : tie.Need-same-length-12
 same-length-12 c = search needs
 
 returns-2 : tie.Need-returns-2
-returns-2 c = let a = c .before .before .before .before .before .before .before .before .before .before .before .before .before .before .before .before .before .before .before .before .before .before .args in added-null (a .s) (now (a .views)) (now (a .bytes)) (now (a .starts)) (now (a .lens)) (now (a .nulls)) (now (a .places)) (now (a .line)) (sym (c .before .before .before .before .before .before .before .before .before .before .before .before .before .before .says .ensures) ∙ c .before .before .before .before .before .before .before .before .before .before .before .before .enum-told2 .given .1) (c .before .before .before .before .before .append-null .ensures)
+returns-2 c =
+    let b12 = c .before .before .before .before .before .before .before .before .before .before .before .before in let b14 = b12 .before .before in
+    let b22 = b14 .before .before .before .before .before .before .before .before in
+    let a = b22 .args in added-null (a .s) (now (a .views)) (now (a .bytes)) (now (a .starts)) (now (a .lens)) (now (a .nulls)) (now (a .places))
+    (now (a .line)) (sym (b14 .says .ensures) ∙ b12 .enum-told2 .given .1) (c .before .before .before .before .before .append-null .ensures)
 
 returns-3 : tie.Need-returns-3
 returns-3 c = added-none _ _ (sym (c .before .before .says .ensures) ∙ c .enum-told3 .given .1)

@@ -35,10 +35,12 @@ cast-result c = search needs
 
 returns : tie.Need-returns
 returns c =
-    let a = c .before .before .before .before .before .before .before .before .args in
+    let b8 = c .before .before .before .before .before .before .before .before in
+    let a = b8 .args in
     let x = now (a .x) in
     let m = c .before .before .before .before .before .before .make-view .ensures in
-    let why : viewWhy x ≡ Accepted = sym (made-why x (a .block) (a .offset)) ∙ sym (ap (λ (r : Made). r .why) m) ∙ c .before .before .before .before .enum-told .given .1 in
+    let why : viewWhy x ≡ Accepted = sym (made-why x (a .block) (a .offset)) ∙ sym (ap (λ (r : Made). r .why) m)
+    ∙ c .before .before .before .before .enum-told .given .1 in
     let view = ap (λ (r : Made). r .view) m ∙ made-view x (a .block) (a .offset) why in
     let len : length (now (a .view)) ≡ 16 = search needs in
     rw why (refl, c .copy16 .ensures ∙ rw view (view-whole (now (a .view)) (makeView x (a .block) (a .offset)) len (length-make x (a .block) (a .offset))))

@@ -9,26 +9,30 @@ use Rattle.values.proofs.add_one.Tie as tie
 
 mul-short-view : tie.Need-mul-short-view
 mul-short-view c =
-    let a = c .before .before .before .before .before .before .before .before .before .args in
-    let g = room-gives (a .s) (now (a .views)) (now (a .bytes)) (now (a .starts)) (now (a .lens)) (now (a .nulls)) (now (a .places)) (c .before .before .before .before .before .before .before .before .before .pre .room) in
+    let b9 = c .before .before .before .before .before .before .before .before .before in
+    let a = b9 .args in
+    let g = room-gives (a .s) (now (a .views)) (now (a .bytes)) (now (a .starts)) (now (a .lens)) (now (a .nulls)) (now (a .places)) (b9 .pre .room) in
     omega (arith, g .rows, row-limit-small)
 
 short-view-requires : tie.Need-short-view-requires
 short-view-requires c κs =
-    let a = c .before .before .before .before .before .before .before .before .before .args in
-    let g = room-gives (a .s) (now (a .views)) (now (a .bytes)) (now (a .starts)) (now (a .lens)) (now (a .nulls)) (now (a .places)) (c .before .before .before .before .before .before .before .before .before .pre .room) in
+    let b9 = c .before .before .before .before .before .before .before .before .before in
+    let a = b9 .args in
+    let g = room-gives (a .s) (now (a .views)) (now (a .bytes)) (now (a .starts)) (now (a .lens)) (now (a .nulls)) (now (a .places)) (b9 .pre .room) in
     (g .views, c .before .if1 .taken)
 
 put-bit-requires : tie.Need-put-bit-requires
 put-bit-requires c κs =
-    let a = c .before .before .before .before .before .before .before .before .before .before .before .before .before .args in
-    let g = room-gives (a .s) (now (a .views)) (now (a .bytes)) (now (a .starts)) (now (a .lens)) (now (a .nulls)) (now (a .places)) (c .before .before .before .before .before .before .before .before .before .before .before .before .before .pre .room) in
+    let b13 = c .before .before .before .before .before .before .before .before .before .before .before .before .before in
+    let a = b13 .args in
+    let g = room-gives (a .s) (now (a .views)) (now (a .bytes)) (now (a .starts)) (now (a .lens)) (now (a .nulls)) (now (a .places)) (b13 .pre .room) in
     g .bits
 
 row-more-requires : tie.Need-row-more-requires
 row-more-requires c κs =
-    let a = c .before .before .before .before .before .before .before .before .before .before .before .before .before .before .before .before .args in
-    let g = room-gives (a .s) (now (a .views)) (now (a .bytes)) (now (a .starts)) (now (a .lens)) (now (a .nulls)) (now (a .places)) (c .before .before .before .before .before .before .before .before .before .before .before .before .before .before .before .before .pre .room) in
+    let b16 = c .before .before .before .before .before .before .before .before .before .before .before .before .before .before .before .before in
+    let a = b16 .args in
+    let g = room-gives (a .s) (now (a .views)) (now (a .bytes)) (now (a .starts)) (now (a .lens)) (now (a .nulls)) (now (a .places)) (b16 .pre .room) in
     g .rows
 
 same-length : tie.Need-same-length
@@ -38,10 +42,15 @@ same-length-2 : tie.Need-same-length-2
 same-length-2 c = search needs
 
 returns : tie.Need-returns
-returns c = does-short _ _ _ _ _ _ _ _ (c .before .before .before .before .before .before .before .before .before .if1 .taken) (c .row-more .ensures) (c .before .before .before .before .before .before .before .short-view .ensures) (c .before .before .before .put-bit .ensures)
+returns c =
+    let b9 = c .before .before .before .before .before .before .before .before .before in
+    does-short _ _ _ _ _ _ _ _ (b9 .if1 .taken) (c .row-more .ensures)
+    (c .before .before .before .before .before .before .before .short-view .ensures) (c .before .before .before .put-bit .ensures)
 
 add-long-requires : tie.Need-add-long-requires
-add-long-requires c κs = (c .before .before .before .before .before .before .before .before .before .before .before .before .before .before .pre, c .before .before .before .before .before .before .if1 .left)
+add-long-requires c κs =
+    let b14 = c .before .before .before .before .before .before .before .before .before .before .before .before .before .before in
+    (b14 .pre, c .before .before .before .before .before .before .if1 .left)
 
 same-length-3 : tie.Need-same-length-3
 same-length-3 c = search needs

@@ -34,11 +34,20 @@ loop-less c = search needs
 
 loop-again : tie.Need-loop-again Inv-loop μ-loop
 loop-again c =
-    let k = c .before .before .before .before .before .loop .k in
-    let same : viewAt (c .before .before .before .before .before .loop .views) (c .before .before .before .before .before .before .before .args .from) ≡ (viewAt (now (c .before .before .before .before .before .before .before .args .views)) (c .before .before .before .before .before .before .before .args .from)) = rw (c .before .before .before .before .before .loop .inv .2) (copies-before (now (c .before .before .before .before .before .before .before .args .views)) (viewAt (now (c .before .before .before .before .before .before .before .args .views)) (c .before .before .before .before .before .before .before .args .from)) (c .before .before .before .before .before .before .before .args .to) (length-view (now (c .before .before .before .before .before .before .before .args .views)) (c .before .before .before .before .before .before .before .args .from) (omega (arith, c .before .before .before .before .before .before .before .pre))) k (c .before .before .before .before .before .before .before .args .from) (c .before .before .before .before .before .before .before .pre .0) (omega (arith, c .before .before .before .before .before .before .before .pre))) in
-    let step : c .before .before .copy-view .last .0 ≡ putCopies (now (c .before .before .before .before .before .before .before .args .views)) (c .before .before .before .before .before .before .before .args .to) (viewAt (now (c .before .before .before .before .before .before .before .args .views)) (c .before .before .before .before .before .before .before .args .from)) (k + 1) =
-    c .before .before .copy-view .ensures ∙ rw (same, c .before .before .before .before .before .loop .inv .2) (copies-more (now (c .before .before .before .before .before .before .before .args .views)) (viewAt (now (c .before .before .before .before .before .before .before .args .views)) (c .before .before .before .before .before .before .before .args .from)) (c .before .before .before .before .before .before .before .args .to) (length-view (now (c .before .before .before .before .before .before .before .args .views)) (c .before .before .before .before .before .before .before .args .from) (omega (arith, c .before .before .before .before .before .before .before .pre))) k) in
-    (omega arith, ap length step ∙ copies-length (now (c .before .before .before .before .before .before .before .args .views)) (viewAt (now (c .before .before .before .before .before .before .before .args .views)) (c .before .before .before .before .before .before .before .args .from)) (c .before .before .before .before .before .before .before .args .to) (length-view (now (c .before .before .before .before .before .before .before .args .views)) (c .before .before .before .before .before .before .before .args .from) (omega (arith, c .before .before .before .before .before .before .before .pre))) (k + 1) (omega (arith, c .before .before .before .before .before .before .before .pre)), step)
+    let b5 = c .before .before .before .before .before in let b7 = b5 .before .before in
+    let k = b5 .loop .k in
+    let same : viewAt (b5 .loop .views) (b7 .args .from) ≡ (viewAt (now (b7 .args .views)) (b7 .args .from)) = rw (b5 .loop .inv .2)
+    (copies-before (now (b7 .args .views)) (viewAt (now (b7 .args .views)) (b7 .args .from)) (b7 .args .to) (length-view (now (b7 .args .views))
+    (b7 .args .from) (omega (arith, b7 .pre))) k (b7 .args .from) (b7 .pre .0) (omega (arith, b7 .pre))) in
+    let step : c .before .before .copy-view .last .0 ≡ putCopies (now (b7 .args .views)) (b7 .args .to) (viewAt (now (b7 .args .views))
+    (b7 .args .from)) (k + 1) =
+    c .before .before .copy-view .ensures ∙ rw (same, b5 .loop .inv .2) (copies-more (now (b7 .args .views)) (viewAt (now (b7 .args .views))
+    (b7 .args .from)) (b7 .args .to) (length-view (now (b7 .args .views)) (b7 .args .from) (omega (arith, b7 .pre))) k) in (
+      omega arith,
+      ap length step ∙ copies-length (now (b7 .args .views)) (viewAt (now (b7 .args .views)) (b7 .args .from)) (b7 .args .to)
+          (length-view (now (b7 .args .views)) (b7 .args .from) (omega (arith, b7 .pre))) (k + 1) (omega (arith, b7 .pre)),
+      step,
+    )
 
 same-length : tie.Need-same-length Inv-loop μ-loop
 same-length c = c .before .loop .inv .1

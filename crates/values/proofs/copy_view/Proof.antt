@@ -40,7 +40,10 @@ returns : tie.Need-returns
 unfolding viewAt
 returns c =
     let a = c .before .before .before .before .before .before .before .before .before .before .before .before .before .args in
-    let two = put-two (now (a .views)) (now (a .views)) (16 * a .to) (16 * a .from) _ _ (λ j. c .before .before .before .before .before .before .before .before .before .before .before .before .slice-known .given j .fits) (omega arith) (omega arith) (c .before .before .before .before .before .before .before .before .before .before .le64 .ensures) (c .before .before .before .before .before .before .before .before .le642 .ensures) in
+    let two = put-two (now (a .views)) (now (a .views)) (16 * a .to) (16 * a .from) _ _
+    (λ j. c .before .before .before .before .before .before .before .before .before .before .before .before .slice-known .given j .fits)
+    (omega arith) (omega arith) (c .before .before .before .before .before .before .before .before .before .before .le64 .ensures)
+    (c .before .before .before .before .before .before .before .before .le642 .ensures) in
     rw (take-take 16 16 (drop (16 * a .from) (now (a .views))) (omega arith)) (cc two)
 
 pub copy-view-spec : {M : Type 1} → statement M

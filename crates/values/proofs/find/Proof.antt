@@ -14,7 +14,8 @@ use Rattle.values.proofs.find.Statement.{statement}
 use Rattle.values.proofs.find.Tie as tie
 
 abbrev Inv-loop : tie.InvT-loop
-Inv-loop s views bytes starts lens places x n p₀ left₀ p left = (p < length places) × (search·from places (showsRow s (bare views bytes starts lens) x) (hashOf x) ≡ seek places (showsRow s (bare views bytes starts lens) x) p left)
+Inv-loop s views bytes starts lens places x n p₀ left₀ p left = (p < length places)
+    × (search·from places (showsRow s (bare views bytes starts lens) x) (hashOf x) ≡ seek places (showsRow s (bare views bytes starts lens) x) p left)
 
 abbrev μ-loop : tie.MeasureT-loop
 μ-loop s views bytes starts lens places x n p₀ left₀ p left = left
@@ -49,7 +50,9 @@ cast-e : tie.Need-cast-e Inv-loop μ-loop
 cast-e c = omega (arith, c .shared-slice-known7 .given (c .before .before .loop .p))
 
 returns-3 : tie.Need-returns-3 Inv-loop μ-loop
-returns-3 c = found-on _ _ _ _ _ _ (c .before .before .before .before .before .before .before .does-merge .ensures) (not-false _ (c .before .before .before .before .before .before .if1 .left)) (seek-empty _ _ _ _ (c .before .before .loop-test .taken) (c .if3 .taken) ∙ sym (c .before .before .before .loop .inv .1))
+returns-3 c = found-on _ _ _ _ _ _ (c .before .before .before .before .before .before .before .does-merge .ensures)
+    (not-false _ (c .before .before .before .before .before .before .if1 .left)) (seek-empty _ _ _ _ (c .before .before .loop-test .taken)
+    (c .if3 .taken) ∙ sym (c .before .before .before .loop .inv .1))
 
 sub-shows-row : tie.Need-sub-shows-row Inv-loop μ-loop
 sub-shows-row c = search needs
@@ -61,7 +64,11 @@ sub-t24 : tie.Need-sub-t24 Inv-loop μ-loop
 sub-t24 c = search needs
 
 returns-4 : tie.Need-returns-4 Inv-loop μ-loop
-returns-4 c = found-on _ _ _ _ _ _ (c .before .before .before .before .before .before .before .before .before .does-merge .ensures) (not-false _ (c .before .before .before .before .before .before .before .before .if1 .left)) (seek-found _ _ _ _ (c .before .before .before .before .loop-test .taken) (c .before .before .if3 .left) (sym (c .before .shows-row .ensures) ∙ c .if4 .taken) ∙ sym (c .before .before .before .before .before .loop .inv .1))
+returns-4 c =
+    let b8 = c .before .before .before .before .before .before .before .before in let b9 = b8 .before in
+    found-on _ _ _ _ _ _ (b9 .does-merge .ensures) (not-false _ (b8 .if1 .left))
+    (seek-found _ _ _ _ (c .before .before .before .before .loop-test .taken) (c .before .before .if3 .left) (sym (c .before .shows-row .ensures)
+    ∙ c .if4 .taken) ∙ sym (c .before .before .before .before .before .loop .inv .1))
 
 next-place-requires : tie.Need-next-place-requires Inv-loop μ-loop
 next-place-requires c κs = search needs
@@ -73,10 +80,16 @@ loop-less : tie.Need-loop-less Inv-loop μ-loop
 loop-less c = search needs
 
 loop-again : tie.Need-loop-again Inv-loop μ-loop
-loop-again c = (c .next-place .ensures .1, c .before .before .before .before .before .before .loop .inv .1 ∙ seek-on _ _ _ _ _ (c .next-place .ensures .0) (c .before .before .before .before .before .loop-test .taken) (c .before .before .before .if3 .left) (sym (c .before .before .shows-row .ensures) ∙ c .before .if4 .left))
+loop-again c = (
+  c .next-place .ensures .1,
+  c .before .before .before .before .before .before .loop .inv .1
+      ∙ seek-on _ _ _ _ _ (c .next-place .ensures .0) (c .before .before .before .before .before .loop-test .taken)
+      (c .before .before .before .if3 .left) (sym (c .before .before .shows-row .ensures) ∙ c .before .if4 .left),
+)
 
 returns-5 : tie.Need-returns-5 Inv-loop μ-loop
-returns-5 c = found-on _ _ _ _ _ _ (c .before .before .before .before .before .does-merge .ensures) (not-false _ (c .before .before .before .before .if1 .left)) (seek-end _ _ _ _ (omega arith) ∙ sym (c .before .loop .inv .1))
+returns-5 c = found-on _ _ _ _ _ _ (c .before .before .before .before .before .does-merge .ensures)
+    (not-false _ (c .before .before .before .before .if1 .left)) (seek-end _ _ _ _ (omega arith) ∙ sym (c .before .loop .inv .1))
 
 pub find-spec : {M : Type 1} → statement M
 find-spec =

@@ -16,7 +16,8 @@ most-requires : tie.Need-most-requires
 most-requires c κs = search needs
 
 returns : tie.Need-returns
-returns c = fresh-is _ _ _ _ _ (c .before .before .before .step .ensures) (c .before .before .before .before .pre .2) (c .before .before .all-blocks .ensures) (c .most .ensures)
+returns c = fresh-is _ _ _ _ _ (c .before .before .before .step .ensures) (c .before .before .before .before .pre .2)
+    (c .before .before .all-blocks .ensures) (c .most .ensures)
 
 pub fresh-spec : {M : Type 1} → statement M
 fresh-spec = tie.close (tie.spec step-requires all-blocks-requires add-t9 most-requires returns)

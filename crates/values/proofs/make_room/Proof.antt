@@ -10,7 +10,12 @@ fits-open-requires c κs = search needs
 
 returns : tie.Need-returns
 unfolding roomed
-returns c = (pick-yes _ _ _ _ _ (c .before .fits-open .ensures) (c .if1 .taken) refl, pick-yes _ _ _ _ _ (c .before .fits-open .ensures) (c .if1 .taken) refl, pick-yes _ _ _ _ _ (c .before .fits-open .ensures) (c .if1 .taken) refl)
+returns c = (
+  pick-yes _ _ _ _ _ (c .before .fits-open .ensures) (c .if1 .taken) refl,
+  pick-yes _ _ _ _ _ (c .before .fits-open .ensures)
+      (c .if1 .taken) refl,
+  pick-yes _ _ _ _ _ (c .before .fits-open .ensures) (c .if1 .taken) refl,
+)
 
 put-record-requires : tie.Need-put-record-requires
 put-record-requires c κs = search needs
@@ -26,7 +31,13 @@ same-length-2 c = search needs
 
 returns-2 : tie.Need-returns-2
 unfolding roomed
-returns-2 c = (pick-no _ _ _ _ _ (c .before .before .before .before .before .before .before .before .before .fits-open .ensures) (c .before .before .before .before .before .before .before .before .if1 .left) (c .fresh .ensures), pick-no _ _ _ _ _ (c .before .before .before .before .before .before .before .before .before .fits-open .ensures) (c .before .before .before .before .before .before .before .before .if1 .left) (c .before .before .before .before .before .put-record .ensures .0), pick-no _ _ _ _ _ (c .before .before .before .before .before .before .before .before .before .fits-open .ensures) (c .before .before .before .before .before .before .before .before .if1 .left) (c .before .before .before .before .before .put-record .ensures .1))
+returns-2 c =
+    let b5 = c .before .before .before .before .before in let b8 = b5 .before .before .before in let b9 = b8 .before in (
+      pick-no _ _ _ _ _ (b9 .fits-open .ensures) (b8 .if1 .left) (c .fresh .ensures),
+      pick-no _ _ _ _ _ (b9 .fits-open .ensures) (b8 .if1 .left)
+          (b5 .put-record .ensures .0),
+      pick-no _ _ _ _ _ (b9 .fits-open .ensures) (b8 .if1 .left) (b5 .put-record .ensures .1),
+    )
 
 pub make-room-spec : {M : Type 1} → statement M
 make-room-spec =

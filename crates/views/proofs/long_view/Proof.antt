@@ -40,8 +40,10 @@ returns : tie.Need-returns
 returns c =
     let s = c .before .before .before .before .before .before .before .before .before .before .before .args in
     let v = now (s .v) in
-    cc (long-words (now (s .b)) v (s .o) (length v + 4294967296 * c .before .before .before .before .before .before .before .before .le32 .result) (s .block + 4294967296 * s .offset) (s .block) (s .offset)
-    (λ j. c .before .before .before .before .before .before .before .before .before .shared-slice-known .given j .fits) (omega arith) (omega arith) (omega arith) (omega arith) refl)
+    cc (long-words (now (s .b)) v (s .o) (length v + 4294967296 * c .before .before .before .before .before .before .before .before .le32 .result)
+    (s .block + 4294967296 * s .offset) (s .block) (s .offset)
+    (λ j. c .before .before .before .before .before .before .before .before .before .shared-slice-known .given j .fits) (omega arith) (omega arith)
+    (omega arith) (omega arith) refl)
 
 pub long-view-spec : {M : Type 1} → statement M
 long-view-spec =

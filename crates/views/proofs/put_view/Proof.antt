@@ -19,14 +19,16 @@ same-length c = search needs
 
 returns : tie.Need-returns
 unfolding makeView
-returns c = rw (le-leb (length (now (c .before .before .before .before .before .before .before .args .v))) 12 (omega arith)) (c .before .before .short-view .ensures)
+returns c = rw (le-leb (length (now (c .before .before .before .before .before .before .before .args .v))) 12 (omega arith))
+    (c .before .before .short-view .ensures)
 
 same-length-2 : tie.Need-same-length-2
 same-length-2 c = search needs
 
 returns-2 : tie.Need-returns-2
 unfolding makeView
-returns-2 c = rw (lt-leb (length (now (c .before .before .before .before .before .before .before .args .v))) 12 (omega arith)) (c .before .before .long-view .ensures)
+returns-2 c = rw (lt-leb (length (now (c .before .before .before .before .before .before .before .args .v))) 12 (omega arith))
+    (c .before .before .long-view .ensures)
 
 pub put-view-spec : {M : Type 1} → statement M
 put-view-spec =

@@ -24,7 +24,10 @@ same-length c = search needs
 returns : tie.Need-returns
 returns c =
     let s = c .before .before .before .before .before .before .before .before .before .before .before .args in
-    cc (two-words (now (s .b)) (now (s .v)) (s .o) _ _ (λ j. c .before .before .before .before .before .before .before .before .before .shared-slice-known .given j .fits) (omega arith) (omega arith) (c .before .before .before .before .before .before .before .before .words-of .ensures .0) (c .before .before .before .before .before .before .before .before .words-of .ensures .1))
+    cc (two-words (now (s .b)) (now (s .v)) (s .o) _ _
+    (λ j. c .before .before .before .before .before .before .before .before .before .shared-slice-known .given j .fits) (omega arith)
+    (omega arith) (c .before .before .before .before .before .before .before .before .words-of .ensures .0)
+    (c .before .before .before .before .before .before .before .before .words-of .ensures .1))
 
 pub short-view-spec : {M : Type 1} → statement M
 short-view-spec =

@@ -43,7 +43,11 @@ shr-t18 : tie.Need-shr-t18
 shr-t18 c = search needs
 
 returns-2 : tie.Need-returns-2
-returns-2 c = (omega arith, rw (c .before .le322 .ensures .0) (rest-some (now (c .before .before .before .before .before .args .v)) (λ j. c .before .before .before .before .shared-slice-known .given j .fits) (omega arith) (omega arith)))
+returns-2 c = (
+  omega arith,
+  rw (c .before .le322 .ensures .0) (rest-some (now (c .before .before .before .before .before .args .v))
+      (λ j. c .before .before .before .before .shared-slice-known .given j .fits) (omega arith) (omega arith)),
+)
 
 le32-requires-3 : tie.Need-le32-requires-3
 le32-requires-3 c κs = search needs
@@ -70,7 +74,12 @@ add-t26 : tie.Need-add-t26
 add-t26 c = omega (arith, shr-le (c .before .before .le322 .result) (8 * (12 - length (now (c .before .before .before .before .before .before .args .v)))))
 
 returns-3 : tie.Need-returns-3
-returns-3 c = (omega arith, rw (c .le323 .ensures .0, c .before .before .le322 .ensures .0) (rest-more (now (c .before .before .before .before .before .before .args .v)) (λ j. c .before .before .before .before .before .shared-slice-known .given j .fits) (omega arith) (omega arith)))
+returns-3 c = (
+  omega arith,
+  rw (c .le323 .ensures .0, c .before .before .le322 .ensures .0)
+      (rest-more (now (c .before .before .before .before .before .before .args .v))
+      (λ j. c .before .before .before .before .before .shared-slice-known .given j .fits) (omega arith) (omega arith)),
+)
 
 pub words-of-spec : {M : Type 1} → statement M
 words-of-spec =

@@ -21,7 +21,14 @@ enum-known-it : tie.Need-enum-known-it
 enum-known-it c = search needs
 
 row-piece-requires : tie.Need-row-piece-requires
-row-piece-requires c κs = ((omega (arith, c .before .before .before .before .before .before .items .ensures, c .before .before .before .before .before .if1 .left)), sym (c .before .before .it .given .1) ∙ c .before .before .before .before .nth-item .ensures)
+row-piece-requires c κs = (
+  (omega (
+    arith,
+    c .before .before .before .before .before .before .items .ensures,
+    c .before .before .before .before .before .if1 .left,
+  )),
+  sym (c .before .before .it .given .1) ∙ c .before .before .before .before .nth-item .ensures,
+)
 
 enum-known-it-2 : tie.Need-enum-known-it-2
 enum-known-it-2 c = search needs

@@ -23,8 +23,9 @@ put-row-null-requires c κs = search needs
 
 add-t20 : tie.Need-add-t20
 add-t20 c =
+    let b10 = c .before .before .before .before .before .before .before .before .before .before in
     omega
-    (arith, c .before .before .before .before .before .before .before .before .before .before .pre, count-most (c .before .before .before .before .before .before .before .before .before .before .args .c .rows))
+    (arith, b10 .pre, count-most (b10 .args .c .rows))
 
 enum-known-bit : tie.Need-enum-known-bit
 enum-known-bit c = search needs
@@ -34,8 +35,9 @@ put-row-null-requires-2 c κs = search needs
 
 add-t25 : tie.Need-add-t25
 add-t25 c =
+    let b11 = c .before .before .before .before .before .before .before .before .before .before .before in
     omega
-    (arith, c .before .before .before .before .before .before .before .before .before .before .before .pre, count-most (c .before .before .before .before .before .before .before .before .before .before .before .args .c .rows))
+    (arith, b11 .pre, count-most (b11 .args .c .rows))
 
 returns : tie.Need-returns
 returns c =

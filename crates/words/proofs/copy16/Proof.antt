@@ -30,7 +30,8 @@ returns : tie.Need-returns
 returns c =
     let read = c .before .before .before .before .before .before .before .before in
     let s = read .before .before .before .before .args in
-    cc (put-two (now (s .dst)) (now (s .src)) (s .o) (s .p) _ _ (λ j. read .before .before .shared-slice-known .given j .fits) (omega arith) (omega arith) (read .before .le64 .ensures) (read .le642 .ensures))
+    cc (put-two (now (s .dst)) (now (s .src)) (s .o) (s .p) _ _ (λ j. read .before .before .shared-slice-known .given j .fits) (omega arith)
+    (omega arith) (read .before .le64 .ensures) (read .le642 .ensures))
 
 pub copy16-spec : {M : Type 1} → statement M
 copy16-spec =

@@ -18,11 +18,13 @@ told-place-requires c κs = search needs
 
 returns : tie.Need-returns
 unfolding placeAt
-returns c = prefix-none _ _ _ (rw (c .before .before .before .before .column-of .ensures) at (c .before .before .told-place .ensures ∙ ap placeTold (c .before .before .before .locate .ensures))) (omega arith)
+returns c = prefix-none _ _ _ (rw (c .before .before .before .before .column-of .ensures) at (c .before .before .told-place .ensures
+    ∙ ap placeTold (c .before .before .before .locate .ensures))) (omega arith)
 
 returns-2 : tie.Need-returns-2
 unfolding placeAt
-returns-2 c = prefix-some _ _ _ (rw (c .before .before .before .before .column-of .ensures) at (c .before .before .told-place .ensures ∙ ap placeTold (c .before .before .before .locate .ensures))) (omega arith)
+returns-2 c = prefix-some _ _ _ (rw (c .before .before .before .before .column-of .ensures) at (c .before .before .told-place .ensures
+    ∙ ap placeTold (c .before .before .before .locate .ensures))) (omega arith)
 
 pub tambuyeel-prefix-spec : {M : Type 1} → statement M
 tambuyeel-prefix-spec =

@@ -20,15 +20,19 @@ told-place-requires c κs = search needs
 
 returns : tie.Need-returns
 unfolding placeAt
-returns c = suffix-none _ _ _ (rw (c .before .before .before .before .column-of .ensures) at (c .before .before .told-place .ensures ∙ ap placeTold (c .before .before .before .locate .ensures))) (omega arith)
+returns c = suffix-none _ _ _ (rw (c .before .before .before .before .column-of .ensures) at (c .before .before .told-place .ensures
+    ∙ ap placeTold (c .before .before .before .locate .ensures))) (omega arith)
 
 add-t14 : tie.Need-add-t14
 unfolding placeAt
-add-t14 c = let t = place-ends _ _ _ _ _ _ _ (rw (c .before .before .before .before .before .before .column-of .ensures) at (c .before .before .before .before .told-place .ensures ∙ ap placeTold (c .before .before .before .before .before .locate .ensures))) in omega (arith, byte-limit-small)
+add-t14 c = let t = place-ends _ _ _ _ _ _ _ (rw (c .before .before .before .before .before .before .column-of .ensures) at
+    (c .before .before .before .before .told-place .ensures ∙ ap placeTold (c .before .before .before .before .before .locate .ensures))) in
+    omega (arith, byte-limit-small)
 
 returns-2 : tie.Need-returns-2
 unfolding placeAt
-returns-2 c = suffix-some _ _ _ (rw (c .before .before .before .before .before .before .column-of .ensures) at (c .before .before .before .before .told-place .ensures ∙ ap placeTold (c .before .before .before .before .before .locate .ensures))) (omega arith)
+returns-2 c = suffix-some _ _ _ (rw (c .before .before .before .before .before .before .column-of .ensures) at
+    (c .before .before .before .before .told-place .ensures ∙ ap placeTold (c .before .before .before .before .before .locate .ensures))) (omega arith)
 
 pub tambuyeel-suffix-spec : {M : Type 1} → statement M
 tambuyeel-suffix-spec =

@@ -22,10 +22,12 @@ next-size-requires c κs =
     doubling-most _ _ (c .before .self2 .given .1) (not-false _ _ (c .before .before .before .before .fits2 .ensures) (c .before .before .before .if1 .left))
 
 returns-2 : tie.Need-returns-2
-returns-2 c = sym (step-fixed _ _ (c .before .self .given .1) (not-false _ _ (c .before .before .before .before .fits2 .ensures) (c .before .before .before .if1 .left)))
+returns-2 c = sym (step-fixed _ _ (c .before .self .given .1) (not-false _ _ (c .before .before .before .before .fits2 .ensures)
+    (c .before .before .before .if1 .left)))
 
 returns-3 : tie.Need-returns-3
-returns-3 c = sym (step-doubling _ _ _ (c .before .before .self2 .given .1) (not-false _ _ (c .before .before .before .before .before .fits2 .ensures) (c .before .before .before .before .if1 .left)) (c .next-size .ensures))
+returns-3 c = sym (step-doubling _ _ _ (c .before .before .self2 .given .1) (not-false _ _ (c .before .before .before .before .before .fits2 .ensures)
+    (c .before .before .before .before .if1 .left)) (c .next-size .ensures))
 
 pub step-spec : {M : Type 1} → statement M
 step-spec =

@@ -30,7 +30,12 @@ mul-both : tie.Need-mul-both
 mul-both c = omega (arith, c .shared-slice-known2 .given (c .before .before .before .args .row / 8 + 1) .fits)
 
 add-both-2 : tie.Need-add-both-2
-add-both-2 c = omega (arith, c .shared-slice-known2 .given (c .before .before .before .args .row / 8) .fits, c .shared-slice-known2 .given (c .before .before .before .args .row / 8 + 1) .fits)
+add-both-2 c = omega (
+  arith,
+  c .shared-slice-known2 .given (c .before .before .before .args .row / 8) .fits,
+  c .shared-slice-known2 .given
+      (c .before .before .before .args .row / 8 + 1) .fits,
+)
 
 shr-result : tie.Need-shr-result
 shr-result c = search needs

@@ -69,9 +69,11 @@ same-length c = search needs
 
 returns : tie.Need-returns Inv-loop μ-loop
 returns c =
-    let s = c .before .before .before .before .before .before .before .before .args in
+    let b8 = c .before .before .before .before .before .before .before .before in
+    let s = b8 .args in
     let l = c .before .before .before .before .before .loop in
-    run-rest (now (s .map)) (l .map) _ (s .first) (l .k) (s .rows) (λ j. isValid (now (s .src)) (s .from + j)) (λ j. isValid (now (s .src)) (s .from + l .k + j)) (l .inv .0) (l .inv .2) (c .before .before .copy-few .ensures)
+    run-rest (now (s .map)) (l .map) _ (s .first) (l .k) (s .rows) (λ j. isValid (now (s .src)) (s .from + j)) (λ j. isValid (now (s .src))
+    (s .from + l .k + j)) (l .inv .0) (l .inv .2) (c .before .before .copy-few .ensures)
     (λ j. ap (isValid (now (s .src))) (add-assoc (s .from) (l .k) j))
 
 pub copy-bits-spec : {M : Type 1} → statement M

@@ -39,8 +39,12 @@ loop-less c = search needs
 loop-again : tie.Need-loop-again Inv-loop μ-loop
 unfolding putBits
 loop-again c =
-    let l = c .before .before .before .before .before .before .loop in
-    (omega arith, c .before .before .put-bit .kept .0 ∙ l .inv .1, rw (add-one (l .k)) (c .before .before .put-bit .ensures ∙ rw (l .inv .2, c .before .before .before .is-valid .ensures)))
+    let l = c .before .before .before .before .before .before .loop in (
+      omega arith,
+      c .before .before .put-bit .kept .0 ∙ l .inv .1,
+      rw (add-one (l .k)) (c .before .before .put-bit .ensures
+          ∙ rw (l .inv .2, c .before .before .before .is-valid .ensures)),
+    )
 
 same-length : tie.Need-same-length Inv-loop μ-loop
 same-length c = search needs

@@ -55,12 +55,14 @@ shl-map c = search needs
 add-map : tie.Need-add-map
 add-map c =
     let a = c .before .before .args in
-    rw (joined (getD (now (a .map)) (a .row / 8) 0) (a .x) (a .row % 8) (8 - a .row % 8) (omega arith) (omega arith) (omega arith)) (omega (arith, joined-lt (getD (now (a .map)) (a .row / 8) 0) (a .x) (a .row % 8) (8 - a .row % 8) (omega arith)))
+    rw (joined (getD (now (a .map)) (a .row / 8) 0) (a .x) (a .row % 8) (8 - a .row % 8) (omega arith) (omega arith) (omega arith))
+    (omega (arith, joined-lt (getD (now (a .map)) (a .row / 8) 0) (a .x) (a .row % 8) (8 - a .row % 8) (omega arith)))
 
 cast-map-2 : tie.Need-cast-map-2
 cast-map-2 c =
     let a = c .before .before .args in
-    rw (joined (getD (now (a .map)) (a .row / 8) 0) (a .x) (a .row % 8) (8 - a .row % 8) (omega arith) (omega arith) (omega arith)) (record { fits = joined-lt (getD (now (a .map)) (a .row / 8) 0) (a .x) (a .row % 8) (8 - a .row % 8) (omega arith) })
+    rw (joined (getD (now (a .map)) (a .row / 8) 0) (a .x) (a .row % 8) (8 - a .row % 8) (omega arith) (omega arith) (omega arith))
+    (record { fits = joined-lt (getD (now (a .map)) (a .row / 8) 0) (a .x) (a .row % 8) (8 - a .row % 8) (omega arith) })
 
 slice-write-map-2 : tie.Need-slice-write-map-2
 slice-write-map-2 c = search needs
@@ -85,7 +87,8 @@ same-length-2 c = search needs
 returns-2 : tie.Need-returns-2
 returns-2 c =
     let a = c .before .before .args in
-    rw (joined (getD (now (a .map)) (a .row / 8) 0) (a .x) (a .row % 8) (8 - a .row % 8) (omega arith) (omega arith) (omega arith)) (byte-split (now (a .map)) (a .row) (a .x) (8 - a .row % 8) (omega arith) (omega arith) (omega arith) (omega arith))
+    rw (joined (getD (now (a .map)) (a .row / 8) 0) (a .x) (a .row % 8) (8 - a .row % 8) (omega arith) (omega arith) (omega arith))
+    (byte-split (now (a .map)) (a .row) (a .x) (8 - a .row % 8) (omega arith) (omega arith) (omega arith) (omega arith))
 
 pub put-byte-spec : {M : Type 1} → statement M
 put-byte-spec =

@@ -9,7 +9,8 @@ use Rattle.null_bits.proofs.runs.put_run.Statement.{statement}
 use Rattle.null_bits.proofs.runs.put_run.Tie as tie
 
 abbrev Inv-loop : tie.InvT-loop
-Inv-loop map₀ first rows valid x k₀ map k = (x < 256) × ((j : ℕ) → j < 8 → digit x j ≡ valid) × (k ≤ rows) × (length map ≡ length map₀) × (map ≡ putBits map₀ first (λ j. valid) k)
+Inv-loop map₀ first rows valid x k₀ map k = (x < 256) × ((j : ℕ) → j < 8 → digit x j ≡ valid) × (k ≤ rows) × (length map ≡ length map₀)
+    × (map ≡ putBits map₀ first (λ j. valid) k)
 
 abbrev μ-loop : tie.MeasureT-loop
 μ-loop map₀ first rows valid x k₀ map k = rows - k
@@ -38,9 +39,16 @@ loop-less c = search needs
 
 loop-again : tie.Need-loop-again Inv-loop μ-loop
 loop-again c =
-    let s = c .before .before .before .before .before .before .before .before .args in
-    let l = c .before .before .before .before .before .loop in
-    (l .inv .0, l .inv .1, search needs, c .before .before .put-byte .kept .0 ∙ l .inv .3, next-byte (now (s .map)) (l .map) _ (s .first) (l .k) _ (λ j. s .valid) (l .inv .4) (c .before .before .put-byte .ensures) (l .inv .1))
+    let b8 = c .before .before .before .before .before .before .before .before in
+    let s = b8 .args in
+    let l = c .before .before .before .before .before .loop in (
+      l .inv .0,
+      l .inv .1,
+      search needs,
+      c .before .before .put-byte .kept .0 ∙ l .inv .3,
+      next-byte (now (s .map)) (l .map) _ (s .first) (l .k) _
+          (λ j. s .valid) (l .inv .4) (c .before .before .put-byte .ensures) (l .inv .1),
+    )
 
 add-put-few : tie.Need-add-put-few Inv-loop μ-loop
 add-put-few c = search needs
@@ -56,9 +64,11 @@ same-length c = search needs
 
 returns : tie.Need-returns Inv-loop μ-loop
 returns c =
-    let s = c .before .before .before .before .before .before .before .before .args in
+    let b8 = c .before .before .before .before .before .before .before .before in
+    let s = b8 .args in
     let l = c .before .before .before .before .before .loop in
-    run-rest (now (s .map)) (l .map) _ (s .first) (l .k) (s .rows) (λ j. s .valid) (λ j. s .valid) (l .inv .2) (l .inv .4) (c .before .before .put-few .ensures) (λ j. refl)
+    run-rest (now (s .map)) (l .map) _ (s .first) (l .k) (s .rows) (λ j. s .valid) (λ j. s .valid) (l .inv .2) (l .inv .4)
+    (c .before .before .put-few .ensures) (λ j. refl)
 
 pub put-run-spec : {M : Type 1} → statement M
 put-run-spec =

@@ -46,7 +46,8 @@ pub fn begin(
     places: &mut [u32; 1],
     input: &[u8],
 ) -> Begun
-    ensures { λ r. ⌜ Begins (now (input .entry)) (now (views .entry)) (now (bytes .entry)) (now (starts .entry)) (now (lens .entry)) (now (nulls .entry)) (now (places .entry)) (now (views .exit)) (now (bytes .exit)) (now (starts .exit)) (now (lens .exit)) (now (nulls .exit)) r ⌝ }
+    ensures { λ r. ⌜ Begins (now (input .entry)) (now (views .entry)) (now (bytes .entry)) (now (starts .entry)) (now (lens .entry))
+        (now (nulls .entry)) (now (places .entry)) (now (views .exit)) (now (bytes .exit)) (now (starts .exit)) (now (lens .exit)) (now (nulls .exit)) r ⌝ }
 {
     if INPUT < input.len() {
         return refused(0);

@@ -75,7 +75,8 @@ fn put_block(
     x: &[u8],
 )
     requires { ⌜ (at + length (now x) ≤ length (now bytes)) × (k < length (now starts)) × (k < length (now lens)) ⌝ }
-    ensures { λ _. ⌜ (now (bytes .exit) ≡ paste (now (bytes .entry)) at (now (x .entry)) (length (now (x .entry)))) × (now (starts .exit) ≡ set (now (starts .entry)) k at)
+    ensures { λ _. ⌜ (now (bytes .exit) ≡ paste (now (bytes .entry)) at (now (x .entry)) (length (now (x .entry))))
+        × (now (starts .exit) ≡ set (now (starts .entry)) k at)
         × (now (lens .exit) ≡ set (now (lens .entry)) k (length (now (x .entry)))) ⌝ }
 {
     builder::lay(bytes, at, x);
@@ -105,7 +106,8 @@ fn why_block(
     places: &[u32],
     x: &[u8],
 ) -> Why
-    ensures { λ r. ⌜ r ≡ whyBlock (held s (now (views .entry)) (now (bytes .entry)) (now (starts .entry)) (now (lens .entry)) (now (nulls .entry)) (now (places .entry))) (now (x .entry)) ⌝ }
+    ensures { λ r. ⌜ r ≡ whyBlock (held s (now (views .entry)) (now (bytes .entry)) (now (starts .entry)) (now (lens .entry)) (now (nulls .entry))
+        (now (places .entry))) (now (x .entry)) ⌝ }
 {
     if !builder::fits_lent(s, views, bytes, starts, lens, nulls, places) {
         return Why::Refused(Refusal::Fit);
@@ -136,7 +138,8 @@ pub fn append_block(
     ensures { λ r. ⌜ Does (λ b. whyBlock b (now (x .entry))) (putBlock (now (x .entry))) s
         (now (views .entry)) (now (bytes .entry)) (now (starts .entry)) (now (lens .entry)) (now (nulls .entry)) (now (places .entry))
         (r .answer) (now (views .entry)) (now (bytes .exit)) (now (starts .exit)) (now (lens .exit)) (now (nulls .entry)) (now (places .entry))
-        × (r .block ≡ blockNumber (held s (now (views .entry)) (now (bytes .entry)) (now (starts .entry)) (now (lens .entry)) (now (nulls .entry)) (now (places .entry))) (now (x .entry))) ⌝ }
+        × (r .block ≡ blockNumber (held s (now (views .entry)) (now (bytes .entry)) (now (starts .entry)) (now (lens .entry)) (now (nulls .entry))
+        (now (places .entry))) (now (x .entry))) ⌝ }
 {
     let w = why_block(
         s,
@@ -182,7 +185,8 @@ fn why_view(
     offset: u32,
     n: u32,
 ) -> Why
-    ensures { λ r. ⌜ r ≡ whyView (held s (now (views .entry)) (now (bytes .entry)) (now (starts .entry)) (now (lens .entry)) (now (nulls .entry)) (now (places .entry))) block offset n ⌝ }
+    ensures { λ r. ⌜ r ≡ whyView (held s (now (views .entry)) (now (bytes .entry)) (now (starts .entry)) (now (lens .entry)) (now (nulls .entry))
+        (now (places .entry))) block offset n ⌝ }
 {
     let kind = s.kind;
     let merging = s.merging;
@@ -334,7 +338,8 @@ fn why_column<'a>(
     srcnulls: &[u8],
     c: Column,
 ) -> Why
-    ensures { λ r. ⌜ r ≡ whyColumn (lent (now (srcviews .entry)) (now (srcbytes .entry)) (now (srcstarts .entry)) (now (srclens .entry)) (now (srcnulls .entry))) c
+    ensures { λ r. ⌜ r ≡ whyColumn (lent (now (srcviews .entry)) (now (srcbytes .entry)) (now (srcstarts .entry)) (now (srclens .entry))
+        (now (srcnulls .entry))) c
         (held s (now (views .entry)) (now (bytes .entry)) (now (starts .entry)) (now (lens .entry)) (now (nulls .entry)) (now (places .entry))) ⌝ }
 {
     let kind = s.kind;
@@ -383,7 +388,8 @@ fn put_blocks(
     requires { ⌜ Taking (length (now bytes)) (length (now starts)) (length (now lens)) first base (now src) (now srcstarts) (now srclens) n ⌝ }
     ensures { λ r. ⌜ (r ≡ endFrom (blockBytes (bare [] (now (src .entry)) (now (srcstarts .entry)) (now (srclens .entry)))) n base)
         × (now (bytes .exit) ≡ putData (blockBytes (bare [] (now (src .entry)) (now (srcstarts .entry)) (now (srclens .entry)))) n (now (bytes .entry)) base)
-        × (now (starts .exit) ≡ putStarts (blockBytes (bare [] (now (src .entry)) (now (srcstarts .entry)) (now (srclens .entry)))) n (now (starts .entry)) first base)
+        × (now (starts .exit) ≡ putStarts (blockBytes (bare [] (now (src .entry)) (now (srcstarts .entry)) (now (srclens .entry)))) n
+        (now (starts .entry)) first base)
         × (now (lens .exit) ≡ putLens (blockBytes (bare [] (now (src .entry)) (now (srcstarts .entry)) (now (srclens .entry)))) n (now (lens .entry)) first) ⌝ }
 {
     let mut at = base;
@@ -464,7 +470,8 @@ pub fn append_column<'a>(
     srcnulls: &[u8],
     c: Column,
 ) -> Answer
-    ensures { λ r. ⌜ Does (whyColumn (lent (now (srcviews .entry)) (now (srcbytes .entry)) (now (srcstarts .entry)) (now (srclens .entry)) (now (srcnulls .entry))) c)
+    ensures { λ r. ⌜ Does (whyColumn (lent (now (srcviews .entry)) (now (srcbytes .entry)) (now (srcstarts .entry)) (now (srclens .entry))
+        (now (srcnulls .entry))) c)
         (putColumn (lent (now (srcviews .entry)) (now (srcbytes .entry)) (now (srcstarts .entry)) (now (srclens .entry)) (now (srcnulls .entry))) c) s
         (now (views .entry)) (now (bytes .entry)) (now (starts .entry)) (now (lens .entry)) (now (nulls .entry)) (now (places .entry))
         r (now (views .exit)) (now (bytes .exit)) (now (starts .exit)) (now (lens .exit)) (now (nulls .exit)) (now (places .entry)) ⌝ }

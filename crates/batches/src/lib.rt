@@ -1,4 +1,5 @@
-// Instruments of the timing driver, no calls of the library: a whole column in one call, so that what is measured is the work. A column that does not fit answers 0.
+// Instruments of the timing driver, no calls of the library: a whole column in one call, so that what is measured is the work. A column that does not
+// fit answers 0.
 ghost use mathlib.Core.Path.{_≡_};
 ghost use Prim.Native.Nat.{_≤_};
 ghost use lib.Dec.{eqb};

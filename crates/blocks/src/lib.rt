@@ -92,7 +92,8 @@ pub fn value<'a>(
     row: usize,
 ) -> &'a [u8]
     ensures { λ r. ⌜ (now r ≡ valueAt (buffers (now (views .entry)) (now (bytes .entry)) (now (table .entry)) (now (nulls .entry))) c row)
-        × (ptr r ≡ pointsAt (buffers (now (views .entry)) (now (bytes .entry)) (now (table .entry)) (now (nulls .entry))) c row (ptr (views .entry)) (ptr (bytes .entry))) ⌝ }
+        × (ptr r ≡ pointsAt (buffers (now (views .entry)) (now (bytes .entry)) (now (table .entry)) (now (nulls .entry))) c row (ptr (views .entry))
+        (ptr (bytes .entry))) ⌝ }
 {
     let s = look(views, table, c, row);
     reading::value_with(views, bytes, nulls, c, row, s)
@@ -153,7 +154,15 @@ pub fn next<'a>(w: Walk<'a>) -> Item<'a>
     ensures { λ r. ⌜ ((now (r .value) ≡ walkValue (heldBy (w .entry)) (w .entry .column) (cursor (w .entry .at)))
         × (ptr (r .value) ≡ pointsAt (heldBy (w .entry)) (w .entry .column) (w .entry .at) (ptr (w .entry .views)) (ptr (w .entry .bytes))))
         × ((r .why ≡ walkStep (heldBy (w .entry)) (w .entry .column) (cursor (w .entry .at)) .why)
-        × (r .walk ≡ record { views = w .entry .views; bytes = w .entry .bytes; table = w .entry .table; nulls = w .entry .nulls; column = w .entry .column; at = walkStep (heldBy (w .entry)) (w .entry .column) (cursor (w .entry .at)) .next .at })) ⌝ }
+        × (r .walk ≡ record {
+          views = w .entry .views;
+          bytes = w .entry .bytes;
+          table = w .entry .table;
+          nulls = w .entry .nulls;
+          column =
+              w .entry .column;
+          at = walkStep (heldBy (w .entry)) (w .entry .column) (cursor (w .entry .at)) .next .at;
+        })) ⌝ }
 {
     let views = w.views;
     let bytes = w.bytes;
@@ -193,7 +202,8 @@ pub fn compare<'a>(
     d: Column,
     j: usize,
 ) -> Compared
-    ensures { λ r. ⌜ r ≡ compareRows (buffers (now (views .entry)) (now (bytes .entry)) (now (table .entry)) (now (nulls .entry))) c i (buffers (now (views2 .entry)) (now (bytes2 .entry)) (now (table2 .entry)) (now (nulls2 .entry))) d j ⌝ }
+    ensures { λ r. ⌜ r ≡ compareRows (buffers (now (views .entry)) (now (bytes .entry)) (now (table .entry)) (now (nulls .entry))) c i
+        (buffers (now (views2 .entry)) (now (bytes2 .entry)) (now (table2 .entry)) (now (nulls2 .entry))) d j ⌝ }
 {
     let s = look(views, table, c, i);
     let s2 = look(views2, table2, d, j);
@@ -269,7 +279,8 @@ fn places_with<'a>(views: &'a [u8], nulls: &'a [u8], c: Column, count: usize) ->
 // The verdict of a check that stopped at place k.
 fn check_with<'a>(views: &'a [u8], nulls: &'a [u8], c: Column, count: usize, k: usize) -> Why
     ensures { λ w. ⌜ ((bytes : List ℕ) (table : List Block) → count ≡ length table
-        → (fits (buffers (now (views .entry)) bytes table (now (nulls .entry))) c ≡ true → Stopped (buffers (now (views .entry)) bytes table (now (nulls .entry))) c k)
+        → (fits (buffers (now (views .entry)) bytes table (now (nulls .entry))) c ≡ true
+        → Stopped (buffers (now (views .entry)) bytes table (now (nulls .entry))) c k)
         → w ≡ whyInvalid (buffers (now (views .entry)) bytes table (now (nulls .entry))) c) ⌝ }
 {
     if !column::fits_with(views, nulls, c, count) {

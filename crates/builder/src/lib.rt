@@ -140,7 +140,8 @@ pub fn fits_lent(
     nulls: &[u8],
     places: &[u32],
 ) -> bool
-    ensures { λ r. ⌜ r ≡ fitsState (held s (now (views .entry)) (now (bytes .entry)) (now (starts .entry)) (now (lens .entry)) (now (nulls .entry)) (now (places .entry))) ⌝ }
+    ensures { λ r. ⌜ r ≡ fitsState (held s (now (views .entry)) (now (bytes .entry)) (now (starts .entry)) (now (lens .entry)) (now (nulls .entry))
+        (now (places .entry))) ⌝ }
 {
     let merging = s.merging;
     state_fits(

@@ -270,7 +270,8 @@ pub extern "C" fn tambuyeel_start(
     places: &mut [u32],
 ) -> u64
     ensures { λ r. ⌜ (r ≡ whyNumber (whyStart (settingsOf (now (settings .entry)))))
-        × (now (state .exit) ≡ ifAccepted (whyStart (settingsOf (now (settings .entry)))) (numbersOf (started (settingsOf (now (settings .entry))))) (now (state .entry)))
+        × (now (state .exit) ≡ ifAccepted (whyStart (settingsOf (now (settings .entry)))) (numbersOf (started (settingsOf (now (settings .entry)))))
+        (now (state .entry)))
         × (now (places .exit) ≡ startPlaces (settingsOf (now (settings .entry))) (now (places .entry))) ⌝ }
 {
     let a = finishing::start(settings_of(settings), places);
@@ -371,8 +372,10 @@ pub extern "C" fn tambuyeel_append_block(
 ) -> Counted
     ensures { λ r. ⌜ Exported (λ b. whyBlock b (now (x .entry))) (putBlock (now (x .entry))) (now (state .entry))
         (now (views .entry)) (now (bytes .entry)) (now (starts .entry)) (now (lens .entry)) (now (nulls .entry)) (now (places .entry))
-        (r .refused) (now (state .exit)) (now (views .entry)) (now (bytes .exit)) (now (starts .exit)) (now (lens .exit)) (now (nulls .entry)) (now (places .entry))
-        × (r .number ≡ blockNumber (held (stateOf (now (state .entry))) (now (views .entry)) (now (bytes .entry)) (now (starts .entry)) (now (lens .entry)) (now (nulls .entry)) (now (places .entry))) (now (x .entry))) ⌝ }
+        (r .refused) (now (state .exit)) (now (views .entry)) (now (bytes .exit)) (now (starts .exit)) (now (lens .exit)) (now (nulls .entry))
+        (now (places .entry))
+        × (r .number ≡ blockNumber (held (stateOf (now (state .entry))) (now (views .entry)) (now (bytes .entry)) (now (starts .entry))
+        (now (lens .entry)) (now (nulls .entry)) (now (places .entry))) (now (x .entry))) ⌝ }
 {
     let s = state_of(state);
     let a = appending::append_block(s, views, bytes, starts, lens, nulls, places, x);
@@ -436,10 +439,15 @@ pub extern "C" fn tambuyeel_append_column<'a>(
     srcnulls: &[u8],
     column: &[usize; 5],
 ) -> Told
-    ensures { λ r. ⌜ Exported (whyColumn (lent (now (srcviews .entry)) (now (srcbytes .entry)) (now (srcstarts .entry)) (now (srclens .entry)) (now (srcnulls .entry))) (columnFrom (now (column .entry)))) (putColumn (lent (now (srcviews .entry)) (now (srcbytes .entry)) (now (srcstarts .entry)) (now (srclens .entry)) (now (srcnulls .entry))) (columnFrom (now (column .entry)))) (now (state .entry))
+    ensures { λ r. ⌜ Exported (whyColumn (lent (now (srcviews .entry)) (now (srcbytes .entry)) (now (srcstarts .entry)) (now (srclens .entry))
+        (now (srcnulls .entry))) (columnFrom (now (column .entry)))) (putColumn (lent (now (srcviews .entry)) (now (srcbytes .entry))
+        (now (srcstarts .entry)) (now (srclens .entry)) (now (srcnulls .entry))) (columnFrom (now (column .entry)))) (now (state .entry))
         (now (views .entry)) (now (bytes .entry)) (now (starts .entry)) (now (lens .entry)) (now (nulls .entry)) (now (places .entry))
-        (r .number) (now (state .exit)) (now (views .exit)) (now (bytes .exit)) (now (starts .exit)) (now (lens .exit)) (now (nulls .exit)) (now (places .entry))
-        × (r ≡ told (whyColumn (lent (now (srcviews .entry)) (now (srcbytes .entry)) (now (srcstarts .entry)) (now (srclens .entry)) (now (srcnulls .entry))) (columnFrom (now (column .entry))) (held (stateOf (now (state .entry))) (now (views .entry)) (now (bytes .entry)) (now (starts .entry)) (now (lens .entry)) (now (nulls .entry)) (now (places .entry))))) ⌝ }
+        (r .number) (now (state .exit)) (now (views .exit)) (now (bytes .exit)) (now (starts .exit)) (now (lens .exit)) (now (nulls .exit))
+        (now (places .entry))
+        × (r ≡ told (whyColumn (lent (now (srcviews .entry)) (now (srcbytes .entry)) (now (srcstarts .entry)) (now (srclens .entry))
+        (now (srcnulls .entry))) (columnFrom (now (column .entry))) (held (stateOf (now (state .entry))) (now (views .entry)) (now (bytes .entry))
+        (now (starts .entry)) (now (lens .entry)) (now (nulls .entry)) (now (places .entry))))) ⌝ }
 {
     let s = state_of(state);
     let a = appending::append_column(
@@ -471,7 +479,8 @@ fn place_of(
     lens: &[usize],
     row: usize,
 ) -> Place
-    requires { ⌜ Ready s (now views) (now starts) (now lens) × (row < s .rows) × (reachable (recorded s (bare (now views) (now bytes) (now starts) (now lens))) (allBlocks s) (viewAt (now views) row) ≡ true) ⌝ }
+    requires { ⌜ Ready s (now views) (now starts) (now lens) × (row < s .rows)
+        × (reachable (recorded s (bare (now views) (now bytes) (now starts) (now lens))) (allBlocks s) (viewAt (now views) row) ≡ true) ⌝ }
     ensures { λ r. ⌜ r ≡ standing s (now (starts .entry)) (viewAt (now (views .entry)) row) row ⌝ }
 {
     let blocks = s.blocks;
@@ -507,7 +516,8 @@ pub extern "C" fn tambuyeel_get_value(
     places: &[u32],
     row: usize,
 ) -> Place
-    ensures { λ r. ⌜ r ≡ placeGot (stateOf (now (state .entry))) (now (views .entry)) (now (bytes .entry)) (now (starts .entry)) (now (lens .entry)) (now (nulls .entry)) (now (places .entry)) row ⌝ }
+    ensures { λ r. ⌜ r ≡ placeGot (stateOf (now (state .entry))) (now (views .entry)) (now (bytes .entry)) (now (starts .entry)) (now (lens .entry))
+        (now (nulls .entry)) (now (places .entry)) row ⌝ }
 {
     let s = state_of(state);
     let why = finishing::why_get(s, views, bytes, starts, lens, nulls, places, row);
@@ -537,7 +547,10 @@ pub extern "C" fn tambuyeel_finish(
     ensures { λ r. ⌜ Exported whyFinish finished (now (state .entry))
         (now (views .entry)) (now (bytes .entry)) (now (starts .entry)) (now (lens .entry)) (now (nulls .entry)) (now (places .entry))
         r (now (state .exit)) (now (views .entry)) (now (bytes .entry)) (now (starts .exit)) (now (lens .exit)) (now (nulls .entry)) (now (places .exit))
-        × (now (column .exit) ≡ ifAccepted (whyFinish (held (stateOf (now (state .entry))) (now (views .entry)) (now (bytes .entry)) (now (starts .entry)) (now (lens .entry)) (now (nulls .entry)) (now (places .entry)))) (columnNumbers (columnOf (held (stateOf (now (state .entry))) (now (views .entry)) (now (bytes .entry)) (now (starts .entry)) (now (lens .entry)) (now (nulls .entry)) (now (places .entry))))) (now (column .entry))) ⌝ }
+        × (now (column .exit) ≡ ifAccepted (whyFinish (held (stateOf (now (state .entry))) (now (views .entry)) (now (bytes .entry))
+        (now (starts .entry)) (now (lens .entry)) (now (nulls .entry)) (now (places .entry))))
+        (columnNumbers (columnOf (held (stateOf (now (state .entry))) (now (views .entry)) (now (bytes .entry)) (now (starts .entry))
+        (now (lens .entry)) (now (nulls .entry)) (now (places .entry))))) (now (column .entry))) ⌝ }
 {
     let s = state_of(state);
     let a = finishing::finish(s, views, bytes, starts, lens, nulls, places);
@@ -563,7 +576,10 @@ pub extern "C" fn tambuyeel_finish_by_copy(
     ensures { λ r. ⌜ Exported whyFinish copied (now (state .entry))
         (now (views .entry)) (now (bytes .entry)) (now (starts .entry)) (now (lens .entry)) (now (nulls .entry)) (now (places .entry))
         r (now (state .exit)) (now (views .entry)) (now (bytes .entry)) (now (starts .exit)) (now (lens .exit)) (now (nulls .entry)) (now (places .entry))
-        × (now (column .exit) ≡ ifAccepted (whyFinish (held (stateOf (now (state .entry))) (now (views .entry)) (now (bytes .entry)) (now (starts .entry)) (now (lens .entry)) (now (nulls .entry)) (now (places .entry)))) (columnNumbers (columnOf (held (stateOf (now (state .entry))) (now (views .entry)) (now (bytes .entry)) (now (starts .entry)) (now (lens .entry)) (now (nulls .entry)) (now (places .entry))))) (now (column .entry))) ⌝ }
+        × (now (column .exit) ≡ ifAccepted (whyFinish (held (stateOf (now (state .entry))) (now (views .entry)) (now (bytes .entry))
+        (now (starts .entry)) (now (lens .entry)) (now (nulls .entry)) (now (places .entry))))
+        (columnNumbers (columnOf (held (stateOf (now (state .entry))) (now (views .entry)) (now (bytes .entry)) (now (starts .entry))
+        (now (lens .entry)) (now (nulls .entry)) (now (places .entry))))) (now (column .entry))) ⌝ }
 {
     let s = state_of(state);
     let a = finishing::finish_copy(s, views, bytes, starts, lens, nulls, places);

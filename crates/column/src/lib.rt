@@ -205,7 +205,8 @@ pub fn spot_at(
     at: usize,
 ) -> Spot
     requires { ⌜ InRoom (now views) (now starts) (now lens) blocks at ⌝ }
-    ensures { λ r. ⌜ r ≡ spotIn (bare (now (views .entry)) (now (bytes .entry)) (now (starts .entry)) (now (lens .entry))) blocks (viewAt (now (views .entry)) at) at ⌝ }
+    ensures { λ r. ⌜ r ≡ spotIn (bare (now (views .entry)) (now (bytes .entry)) (now (starts .entry)) (now (lens .entry))) blocks
+        (viewAt (now (views .entry)) at) at ⌝ }
 {
     let b = record_at(views, starts, lens, blocks, at);
     spot_with(views, at, blocks, room_of(bytes), b)
@@ -263,7 +264,8 @@ pub fn reach_at(
     at: usize,
 ) -> Reach
     requires { ⌜ InRoom (now views) (now starts) (now lens) blocks at ⌝ }
-    ensures { λ r. ⌜ r ≡ reachOf (bare (now (views .entry)) (now (bytes .entry)) (now (starts .entry)) (now (lens .entry))) blocks (viewAt (now (views .entry)) at) ⌝ }
+    ensures { λ r. ⌜ r ≡ reachOf (bare (now (views .entry)) (now (bytes .entry)) (now (starts .entry)) (now (lens .entry))) blocks
+        (viewAt (now (views .entry)) at) ⌝ }
 {
     reach_of(spot_at(views, bytes, starts, lens, blocks, at))
 }
@@ -278,7 +280,8 @@ pub fn reachable_at(
     at: usize,
 ) -> bool
     requires { ⌜ InRoom (now views) (now starts) (now lens) blocks at ⌝ }
-    ensures { λ r. ⌜ r ≡ reachable (bare (now (views .entry)) (now (bytes .entry)) (now (starts .entry)) (now (lens .entry))) blocks (viewAt (now (views .entry)) at) ⌝ }
+    ensures { λ r. ⌜ r ≡ reachable (bare (now (views .entry)) (now (bytes .entry)) (now (starts .entry)) (now (lens .entry))) blocks
+        (viewAt (now (views .entry)) at) ⌝ }
 {
     is_reached(spot_at(views, bytes, starts, lens, blocks, at))
 }
@@ -292,9 +295,12 @@ pub fn value_part<'a>(
     blocks: usize,
     at: usize,
 ) -> &'a [u8]
-    requires { ⌜ InRoom (now views) (now starts) (now lens) blocks at × (reachable (bare (now views) (now bytes) (now starts) (now lens)) blocks (viewAt (now views) at) ≡ true) ⌝ }
-    ensures { λ r. ⌜ (now r ≡ shown (blocksOf (bare (now (views .entry)) (now (bytes .entry)) (now (starts .entry)) (now (lens .entry))) blocks) (viewAt (now (views .entry)) at))
-        × (ptr r ≡ pointsTo (ptr (views .entry)) (ptr (bytes .entry)) (spotIn (bare (now (views .entry)) (now (bytes .entry)) (now (starts .entry)) (now (lens .entry))) blocks (viewAt (now (views .entry)) at) at)) ⌝ }
+    requires { ⌜ InRoom (now views) (now starts) (now lens) blocks at × (reachable (bare (now views) (now bytes) (now starts) (now lens)) blocks
+        (viewAt (now views) at) ≡ true) ⌝ }
+    ensures { λ r. ⌜ (now r ≡ shown (blocksOf (bare (now (views .entry)) (now (bytes .entry)) (now (starts .entry)) (now (lens .entry))) blocks)
+        (viewAt (now (views .entry)) at))
+        × (ptr r ≡ pointsTo (ptr (views .entry)) (ptr (bytes .entry)) (spotIn (bare (now (views .entry)) (now (bytes .entry)) (now (starts .entry))
+        (now (lens .entry))) blocks (viewAt (now (views .entry)) at) at)) ⌝ }
 {
     let s = spot_at(views, bytes, starts, lens, blocks, at);
     part_of(views, bytes, s)
@@ -376,7 +382,8 @@ pub fn is_true_at<'a>(
     at: usize,
 ) -> bool
     requires { ⌜ InRoom (now views) (now starts) (now lens) blocks at ⌝ }
-    ensures { λ r. ⌜ r ≡ isTrue (bare (now (views .entry)) (now (bytes .entry)) (now (starts .entry)) (now (lens .entry))) kind blocks (viewAt (now (views .entry)) at) ⌝ }
+    ensures { λ r. ⌜ r ≡ isTrue (bare (now (views .entry)) (now (bytes .entry)) (now (starts .entry)) (now (lens .entry))) kind blocks
+        (viewAt (now (views .entry)) at) ⌝ }
 {
     let b = record_at(views, starts, lens, blocks, at);
     true_with(views, bytes, at, kind, blocks, b)

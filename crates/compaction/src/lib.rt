@@ -206,9 +206,12 @@ fn put_row<'a>(
     s: Stand,
     most: usize,
 ) -> Stand
-    requires { ⌜ InRoom (now views) (now starts) (now lens) blocks at × (reachable (bare (now views) (now bytes) (now starts) (now lens)) blocks (viewAt (now views) at) ≡ true) ⌝ }
+    requires { ⌜ InRoom (now views) (now starts) (now lens) blocks at × (reachable (bare (now views) (now bytes) (now starts) (now lens)) blocks
+        (viewAt (now views) at) ≡ true) ⌝ }
     requires { ⌜ RowIn (lengthOf (viewAt (now views) at)) (now newviews) (now newbytes) row s ⌝ }
-    ensures { λ r. ⌜ RowPut most row (viewAt (now (views .entry)) at) (shown (blocksOf (bare (now (views .entry)) (now (bytes .entry)) (now (starts .entry)) (now (lens .entry))) blocks) (viewAt (now (views .entry)) at)) s (now (newviews .entry)) (now (newbytes .entry)) r (now (newviews .exit)) (now (newbytes .exit)) ⌝ }
+    ensures { λ r. ⌜ RowPut most row (viewAt (now (views .entry)) at)
+        (shown (blocksOf (bare (now (views .entry)) (now (bytes .entry)) (now (starts .entry)) (now (lens .entry))) blocks)
+        (viewAt (now (views .entry)) at)) s (now (newviews .entry)) (now (newbytes .entry)) r (now (newviews .exit)) (now (newbytes .exit)) ⌝ }
 {
     if views::view_len(views, at) <= views::SHORT_MOST {
         words::copy16(
@@ -236,7 +239,8 @@ fn write<'a>(
 )
     requires { ⌜ Source (now views) (now starts) (now lens) c ⌝ }
     requires { ⌜ WriteIn most (bare (now views) (now bytes) (now starts) (now lens)) c (now newviews) (now newbytes) ⌝ }
-    ensures { λ _. ⌜ Filled most (bare (now (views .entry)) (now (bytes .entry)) (now (starts .entry)) (now (lens .entry))) c (now (newviews .entry)) (now (newbytes .entry)) (now (newviews .exit)) (now (newbytes .exit)) ⌝ }
+    ensures { λ _. ⌜ Filled most (bare (now (views .entry)) (now (bytes .entry)) (now (starts .entry)) (now (lens .entry))) c (now (newviews .entry))
+        (now (newbytes .entry)) (now (newviews .exit)) (now (newbytes .exit)) ⌝ }
 {
     let first = c.first;
     let rows = c.rows;
@@ -292,8 +296,10 @@ fn write_table(
     newstarts: &mut [usize],
     newlens: &mut [usize],
 )
-    requires { ⌜ (viewSize * (first + rows) ≤ length (now views)) × (first + rows ≤ rowLimit) × (TableIn (standAt most (λ r. viewAt (now views) (first + r)) rows) (now newstarts) (now newlens)) ⌝ }
-    ensures { λ _. ⌜ Listed most (λ r. viewAt (now (views .entry)) (first + r)) rows (now (newstarts .entry)) (now (newlens .entry)) (now (newstarts .exit)) (now (newlens .exit)) ⌝ }
+    requires { ⌜ (viewSize * (first + rows) ≤ length (now views)) × (first + rows ≤ rowLimit)
+        × (TableIn (standAt most (λ r. viewAt (now views) (first + r)) rows) (now newstarts) (now newlens)) ⌝ }
+    ensures { λ _. ⌜ Listed most (λ r. viewAt (now (views .entry)) (first + r)) rows (now (newstarts .entry)) (now (newlens .entry))
+        (now (newstarts .exit)) (now (newlens .exit)) ⌝ }
 {
     let mut s = Stand {
         closed: 0,
@@ -332,9 +338,11 @@ fn put_table(
     newstarts: &mut [usize],
     newlens: &mut [usize],
 )
-    requires { ⌜ (viewSize * (first + rows) ≤ length (now views)) × (first + rows ≤ rowLimit) × (TableIn (standAt most (λ r. viewAt (now views) (first + r)) rows) (now newstarts) (now newlens)) ⌝ }
+    requires { ⌜ (viewSize * (first + rows) ≤ length (now views)) × (first + rows ≤ rowLimit)
+        × (TableIn (standAt most (λ r. viewAt (now views) (first + r)) rows) (now newstarts) (now newlens)) ⌝ }
     requires { ⌜ Counted most (λ r. viewAt (now views) (first + r)) rows blocks total ⌝ }
-    ensures { λ _. ⌜ Listed most (λ r. viewAt (now (views .entry)) (first + r)) rows (now (newstarts .entry)) (now (newlens .entry)) (now (newstarts .exit)) (now (newlens .exit)) ⌝ }
+    ensures { λ _. ⌜ Listed most (λ r. viewAt (now (views .entry)) (first + r)) rows (now (newstarts .entry)) (now (newlens .entry))
+        (now (newstarts .exit)) (now (newlens .exit)) ⌝ }
 {
     if blocks == 0 {
         return;
@@ -376,7 +384,8 @@ fn judge<'a>(
     newlens: &[usize],
     newnulls: &[u8],
 ) -> Judged
-    ensures { λ r. ⌜ Judges most (lent (now (views .entry)) (now (bytes .entry)) (now (starts .entry)) (now (lens .entry)) (now (nulls .entry))) c (lent (now (newviews .entry)) (now (newbytes .entry)) (now (newstarts .entry)) (now (newlens .entry)) (now (newnulls .entry))) r ⌝ }
+    ensures { λ r. ⌜ Judges most (lent (now (views .entry)) (now (bytes .entry)) (now (starts .entry)) (now (lens .entry)) (now (nulls .entry))) c
+        (lent (now (newviews .entry)) (now (newbytes .entry)) (now (newstarts .entry)) (now (newlens .entry)) (now (newnulls .entry))) r ⌝ }
 {
     if bounds::MOST_COMPACTION < most {
         return Judged {
@@ -450,7 +459,9 @@ pub fn compact<'a>(
     newlens: &mut [usize],
     newnulls: &mut [u8],
 ) -> Outcome
-    ensures { λ r. ⌜ Wrote most (lent (now (views .entry)) (now (bytes .entry)) (now (starts .entry)) (now (lens .entry)) (now (nulls .entry))) c (now (newviews .entry)) (now (newbytes .entry)) (now (newstarts .entry)) (now (newlens .entry)) (now (newnulls .entry)) r (now (newviews .exit)) (now (newbytes .exit)) (now (newstarts .exit)) (now (newlens .exit)) (now (newnulls .exit)) ⌝ }
+    ensures { λ r. ⌜ Wrote most (lent (now (views .entry)) (now (bytes .entry)) (now (starts .entry)) (now (lens .entry)) (now (nulls .entry))) c
+        (now (newviews .entry)) (now (newbytes .entry)) (now (newstarts .entry)) (now (newlens .entry)) (now (newnulls .entry)) r
+        (now (newviews .exit)) (now (newbytes .exit)) (now (newstarts .exit)) (now (newlens .exit)) (now (newnulls .exit)) ⌝ }
 {
     let j = judge(
         views,

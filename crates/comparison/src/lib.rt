@@ -92,7 +92,8 @@ fn view_of<'a>(views: &'a [u8], c: Column, row: usize) -> &'a [u8]
 // Two views and the values that they show: short ones by their twelve bytes, then length; otherwise four bytes, then whole values.
 fn order_with<'a>(v: &'a [u8], x: &'a [u8], w: &'a [u8], y: &'a [u8]) -> Order
     ensures { λ r. ⌜ ((bs cs : List (List ℕ)) → length (now (v .entry)) ≡ viewSize → length (now (w .entry)) ≡ viewSize
-        → now (x .entry) ≡ shown bs (now (v .entry)) → now (y .entry) ≡ shown cs (now (w .entry)) → ordering r ≡ compareViews bs (now (v .entry)) cs (now (w .entry))) ⌝ }
+        → now (x .entry) ≡ shown bs (now (v .entry)) → now (y .entry) ≡ shown cs (now (w .entry)) → ordering r ≡ compareViews bs (now (v .entry)) cs
+        (now (w .entry))) ⌝ }
 {
     if v.len() != views::VIEW_SIZE {
         return Order::Equal;
@@ -127,7 +128,8 @@ pub fn compare_with<'a>(
     s2: Seen,
 ) -> Compared
     ensures { λ r. ⌜ ((table table2 : List Block) → Sees table (now (views .entry)) (c .first + i) s → Sees table2 (now (views2 .entry)) (d .first + j) s2
-        → r ≡ compareRows (buffers (now (views .entry)) (now (bytes .entry)) table (now (nulls .entry))) c i (buffers (now (views2 .entry)) (now (bytes2 .entry)) table2 (now (nulls2 .entry))) d j) ⌝ }
+        → r ≡ compareRows (buffers (now (views .entry)) (now (bytes .entry)) table (now (nulls .entry))) c i (buffers (now (views2 .entry))
+        (now (bytes2 .entry)) table2 (now (nulls2 .entry))) d j) ⌝ }
 {
     let p = reading::locate_with(views, bytes, nulls, c, i, s);
     let q = reading::locate_with(views2, bytes2, nulls2, d, j, s2);
@@ -162,7 +164,8 @@ pub fn compare<'a>(
     d: Column,
     j: usize,
 ) -> Compared
-    ensures { λ r. ⌜ r ≡ compareRows (lentOf (views .entry) (bytes .entry) (starts .entry) (lens .entry) (nulls .entry)) c i (lentOf (views2 .entry) (bytes2 .entry) (starts2 .entry) (lens2 .entry) (nulls2 .entry)) d j ⌝ }
+    ensures { λ r. ⌜ r ≡ compareRows (lentOf (views .entry) (bytes .entry) (starts .entry) (lens .entry) (nulls .entry)) c i
+        (lentOf (views2 .entry) (bytes2 .entry) (starts2 .entry) (lens2 .entry) (nulls2 .entry)) d j ⌝ }
 {
     let p = reading::locate(views, bytes, starts, lens, nulls, c, i);
     let q = reading::locate(views2, bytes2, starts2, lens2, nulls2, d, j);
@@ -183,7 +186,8 @@ pub fn compare<'a>(
 // Which rows of a column that fits are reachable: accepted where all are, else the lowest that isn't.
 fn judge_rows(views: &[u8], bytes: &[u8], starts: &[usize], lens: &[usize], c: Column) -> Why
     requires { ⌜ RowsInRoom (now views) (now starts) (now lens) c ⌝ }
-    ensures { λ r. ⌜ r ≡ lowest (reachableAt (bare (now (views .entry)) (now (bytes .entry)) (now (starts .entry)) (now (lens .entry))) c) (c .rows) Accepted ⌝ }
+    ensures { λ r. ⌜ r ≡ lowest (reachableAt (bare (now (views .entry)) (now (bytes .entry)) (now (starts .entry)) (now (lens .entry))) c) (c .rows)
+        Accepted ⌝ }
 {
     let first = c.first;
     let rows = c.rows;
@@ -232,7 +236,8 @@ fn same_row<'a>(
     k: usize,
 ) -> bool
     requires { ⌜ Comparable (lentOf views bytes starts lens nulls) c k (lentOf views2 bytes2 starts2 lens2 nulls2) d k ⌝ }
-    ensures { λ r. ⌜ r ≡ sameRow (lentOf (views .entry) (bytes .entry) (starts .entry) (lens .entry) (nulls .entry)) c (lentOf (views2 .entry) (bytes2 .entry) (starts2 .entry) (lens2 .entry) (nulls2 .entry)) d k ⌝ }
+    ensures { λ r. ⌜ r ≡ sameRow (lentOf (views .entry) (bytes .entry) (starts .entry) (lens .entry) (nulls .entry)) c
+        (lentOf (views2 .entry) (bytes2 .entry) (starts2 .entry) (lens2 .entry) (nulls2 .entry)) d k ⌝ }
 {
     let valid = null_bits::valid_at(nulls, c.mapped, c.first + k);
     let valid2 = null_bits::valid_at(nulls2, d.mapped, d.first + k);
@@ -260,7 +265,8 @@ fn same_rows<'a>(
     d: Column,
 ) -> bool
     requires { ⌜ AllComparable (lentOf views bytes starts lens nulls) c (lentOf views2 bytes2 starts2 lens2 nulls2) d × (c .rows ≡ d .rows) ⌝ }
-    ensures { λ r. ⌜ r ≡ sameRows (lentOf (views .entry) (bytes .entry) (starts .entry) (lens .entry) (nulls .entry)) c (lentOf (views2 .entry) (bytes2 .entry) (starts2 .entry) (lens2 .entry) (nulls2 .entry)) d (c .rows) ⌝ }
+    ensures { λ r. ⌜ r ≡ sameRows (lentOf (views .entry) (bytes .entry) (starts .entry) (lens .entry) (nulls .entry)) c
+        (lentOf (views2 .entry) (bytes2 .entry) (starts2 .entry) (lens2 .entry) (nulls2 .entry)) d (c .rows) ⌝ }
 {
     let rows = c.rows;
     let mut k = 0;
@@ -302,7 +308,8 @@ pub fn same_column<'a>(
     nulls2: &[u8],
     d: Column,
 ) -> Sameness
-    ensures { λ r. ⌜ r ≡ sameColumn (lentOf (views .entry) (bytes .entry) (starts .entry) (lens .entry) (nulls .entry)) c (lentOf (views2 .entry) (bytes2 .entry) (starts2 .entry) (lens2 .entry) (nulls2 .entry)) d ⌝ }
+    ensures { λ r. ⌜ r ≡ sameColumn (lentOf (views .entry) (bytes .entry) (starts .entry) (lens .entry) (nulls .entry)) c
+        (lentOf (views2 .entry) (bytes2 .entry) (starts2 .entry) (lens2 .entry) (nulls2 .entry)) d ⌝ }
 {
     let left = why_all(views, bytes, starts, lens, nulls, c);
     let right = why_all(views2, bytes2, starts2, lens2, nulls2, d);

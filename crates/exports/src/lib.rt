@@ -136,7 +136,8 @@ pub extern "C" fn tambuyeel_why_value(
     column: &[usize; 5],
     row: usize,
 ) -> u8
-    ensures { λ r. ⌜ r ≡ whyNumber (whyValue (lentOf (views .entry) (bytes .entry) (starts .entry) (lens .entry) (nulls .entry)) (columnOf (now (column .entry))) row) ⌝ }
+    ensures { λ r. ⌜ r ≡ whyNumber (whyValue (lentOf (views .entry) (bytes .entry) (starts .entry) (lens .entry) (nulls .entry))
+        (columnOf (now (column .entry))) row) ⌝ }
 {
     bounds::why_number(reading::why_value(
         views,
@@ -159,7 +160,8 @@ pub extern "C" fn tambuyeel_check<'a>(
     nulls: &[u8],
     column: &[usize; 5],
 ) -> Told
-    ensures { λ r. ⌜ r ≡ whyTold (whyInvalid (lentOf (views .entry) (bytes .entry) (starts .entry) (lens .entry) (nulls .entry)) (columnOf (now (column .entry)))) ⌝ }
+    ensures { λ r. ⌜ r ≡ whyTold (whyInvalid (lentOf (views .entry) (bytes .entry) (starts .entry) (lens .entry) (nulls .entry))
+        (columnOf (now (column .entry)))) ⌝ }
 {
     told_why(validity::check(views, bytes, starts, lens, nulls, column_of(column)))
 }
@@ -182,7 +184,9 @@ pub extern "C" fn tambuyeel_compare<'a>(
     column2: &[usize; 5],
     j: usize,
 ) -> u64
-    ensures { λ r. ⌜ r ≡ comparedNumber (compareRows (lentOf (views .entry) (bytes .entry) (starts .entry) (lens .entry) (nulls .entry)) (columnOf (now (column .entry))) i (lentOf (views2 .entry) (bytes2 .entry) (starts2 .entry) (lens2 .entry) (nulls2 .entry)) (columnOf (now (column2 .entry))) j) ⌝ }
+    ensures { λ r. ⌜ r ≡ comparedNumber (compareRows (lentOf (views .entry) (bytes .entry) (starts .entry) (lens .entry) (nulls .entry))
+        (columnOf (now (column .entry))) i (lentOf (views2 .entry) (bytes2 .entry) (starts2 .entry) (lens2 .entry) (nulls2 .entry))
+        (columnOf (now (column2 .entry))) j) ⌝ }
 {
     let c = column_of(column);
     let d = column_of(column2);
@@ -220,7 +224,9 @@ pub extern "C" fn tambuyeel_same_column<'a>(
     nulls2: &[u8],
     column2: &[usize; 5],
 ) -> Told
-    ensures { λ r. ⌜ r ≡ sameTold (sameColumn (lentOf (views .entry) (bytes .entry) (starts .entry) (lens .entry) (nulls .entry)) (columnOf (now (column .entry))) (lentOf (views2 .entry) (bytes2 .entry) (starts2 .entry) (lens2 .entry) (nulls2 .entry)) (columnOf (now (column2 .entry)))) ⌝ }
+    ensures { λ r. ⌜ r ≡ sameTold (sameColumn (lentOf (views .entry) (bytes .entry) (starts .entry) (lens .entry) (nulls .entry))
+        (columnOf (now (column .entry))) (lentOf (views2 .entry) (bytes2 .entry) (starts2 .entry) (lens2 .entry) (nulls2 .entry))
+        (columnOf (now (column2 .entry)))) ⌝ }
 {
     let c = column_of(column);
     let d = column_of(column2);

@@ -73,7 +73,8 @@ pub extern "C" fn tambuyeel_length(
     column: &[usize; 5],
     row: usize,
 ) -> Counted
-    ensures { λ r. ⌜ r ≡ numberTold (spec.lengthAt (lentOf (views .entry) (bytes .entry) (starts .entry) (lens .entry) (nulls .entry)) (columnOf (now (column .entry))) row) ⌝ }
+    ensures { λ r. ⌜ r ≡ numberTold (spec.lengthAt (lentOf (views .entry) (bytes .entry) (starts .entry) (lens .entry) (nulls .entry))
+        (columnOf (now (column .entry))) row) ⌝ }
 {
     told_number(reading::length(
         views,
@@ -97,7 +98,8 @@ pub extern "C" fn tambuyeel_null_bit(
     column: &[usize; 5],
     row: usize,
 ) -> Counted
-    ensures { λ r. ⌜ r ≡ bitTold (spec.bitOf (lentOf (views .entry) (bytes .entry) (starts .entry) (lens .entry) (nulls .entry)) (columnOf (now (column .entry))) row) ⌝ }
+    ensures { λ r. ⌜ r ≡ bitTold (spec.bitOf (lentOf (views .entry) (bytes .entry) (starts .entry) (lens .entry) (nulls .entry))
+        (columnOf (now (column .entry))) row) ⌝ }
 {
     told_bit(reading::null_bit(
         views,
@@ -122,7 +124,8 @@ pub extern "C" fn tambuyeel_null_run(
     start: usize,
     count: usize,
 ) -> Counted
-    ensures { λ r. ⌜ r ≡ numberTold (spec.nullRun (lentOf (views .entry) (bytes .entry) (starts .entry) (lens .entry) (nulls .entry)) (columnOf (now (column .entry))) start count) ⌝ }
+    ensures { λ r. ⌜ r ≡ numberTold (spec.nullRun (lentOf (views .entry) (bytes .entry) (starts .entry) (lens .entry) (nulls .entry))
+        (columnOf (now (column .entry))) start count) ⌝ }
 {
     told_number(reading::null_run(
         views,
@@ -148,7 +151,8 @@ pub extern "C" fn tambuyeel_slice(
     start: usize,
     count: usize,
 ) -> Run
-    ensures { λ r. ⌜ r ≡ sliceTold (spec.slice (lentOf (views .entry) (bytes .entry) (starts .entry) (lens .entry) (nulls .entry)) (columnOf (now (column .entry))) start count) ⌝ }
+    ensures { λ r. ⌜ r ≡ sliceTold (spec.slice (lentOf (views .entry) (bytes .entry) (starts .entry) (lens .entry) (nulls .entry))
+        (columnOf (now (column .entry))) start count) ⌝ }
 {
     told_slice(reading::slice(
         views,
@@ -172,7 +176,8 @@ pub extern "C" fn tambuyeel_total_bytes_len(
     nulls: &[u8],
     column: &[usize; 5],
 ) -> Counted
-    ensures { λ r. ⌜ r ≡ numberTold (spec.totalBytesLen (lentOf (views .entry) (bytes .entry) (starts .entry) (lens .entry) (nulls .entry)) (columnOf (now (column .entry)))) ⌝ }
+    ensures { λ r. ⌜ r ≡ numberTold (spec.totalBytesLen (lentOf (views .entry) (bytes .entry) (starts .entry) (lens .entry) (nulls .entry))
+        (columnOf (now (column .entry)))) ⌝ }
 {
     told_number(reading::total_bytes_len(
         views,
@@ -194,7 +199,8 @@ pub extern "C" fn tambuyeel_total_buffer_bytes_used(
     nulls: &[u8],
     column: &[usize; 5],
 ) -> Counted
-    ensures { λ r. ⌜ r ≡ numberTold (spec.totalBufferBytesUsed (lentOf (views .entry) (bytes .entry) (starts .entry) (lens .entry) (nulls .entry)) (columnOf (now (column .entry)))) ⌝ }
+    ensures { λ r. ⌜ r ≡ numberTold (spec.totalBufferBytesUsed (lentOf (views .entry) (bytes .entry) (starts .entry) (lens .entry) (nulls .entry))
+        (columnOf (now (column .entry)))) ⌝ }
 {
     told_number(reading::total_buffer_bytes_used(
         views,
@@ -218,7 +224,8 @@ pub extern "C" fn tambuyeel_prefix(
     row: usize,
     n: usize,
 ) -> Place
-    ensures { λ r. ⌜ r ≡ prefixPlace n (placeAt (lentOf (views .entry) (bytes .entry) (starts .entry) (lens .entry) (nulls .entry)) (columnOf (now (column .entry))) row) ⌝ }
+    ensures { λ r. ⌜ r ≡ prefixPlace n (placeAt (lentOf (views .entry) (bytes .entry) (starts .entry) (lens .entry) (nulls .entry))
+        (columnOf (now (column .entry))) row) ⌝ }
 {
     let c = crate::column_of(column);
     let p = crate::told_place(reading::locate(views, bytes, starts, lens, nulls, c, row));
@@ -250,7 +257,8 @@ pub extern "C" fn tambuyeel_suffix(
     row: usize,
     n: usize,
 ) -> Place
-    ensures { λ r. ⌜ r ≡ suffixPlace n (placeAt (lentOf (views .entry) (bytes .entry) (starts .entry) (lens .entry) (nulls .entry)) (columnOf (now (column .entry))) row) ⌝ }
+    ensures { λ r. ⌜ r ≡ suffixPlace n (placeAt (lentOf (views .entry) (bytes .entry) (starts .entry) (lens .entry) (nulls .entry))
+        (columnOf (now (column .entry))) row) ⌝ }
 {
     let c = crate::column_of(column);
     let p = crate::told_place(reading::locate(views, bytes, starts, lens, nulls, c, row));

@@ -110,7 +110,8 @@ fn null_with(
     nulls: &mut [u8],
     places: &[u32],
 ) -> Answer
-    ensures { λ r. ⌜ ((t : List Block) → count ≡ length t → Files whyNull putNull s (now (views .entry)) (now (bytes .entry)) t (now (nulls .entry)) (now (places .entry))
+    ensures { λ r. ⌜ ((t : List Block) → count ≡ length t → Files whyNull putNull s (now (views .entry)) (now (bytes .entry)) t (now (nulls .entry))
+        (now (places .entry))
         r (now (views .exit)) (now (bytes .entry)) t (now (nulls .exit)) (now (places .entry))) ⌝ }
 {
     let merging = s.merging;
@@ -159,7 +160,8 @@ fn copy_with(
     nulls: &[u8],
     places: &[u32],
 ) -> Ended
-    ensures { λ r. ⌜ ((t : List Block) → count ≡ length t → Files whyFinish copied s (now (views .entry)) (now (bytes .entry)) t (now (nulls .entry)) (now (places .entry))
+    ensures { λ r. ⌜ ((t : List Block) → count ≡ length t → Files whyFinish copied s (now (views .entry)) (now (bytes .entry)) t (now (nulls .entry))
+        (now (places .entry))
         (r .finished .answer) (now (views .entry)) (now (bytes .entry)) (set t (r .at) (r .block)) (now (nulls .entry)) (now (places .entry))
         × (r .finished .column ≡ finishColumn (filed s (now (views .entry)) (now (bytes .entry)) t (now (nulls .entry)) (now (places .entry))))) ⌝ }
 {
@@ -221,7 +223,8 @@ fn finish_with(
     nulls: &[u8],
     places: &mut [u32],
 ) -> Ended
-    ensures { λ r. ⌜ ((t : List Block) → count ≡ length t → Files whyFinish finished s (now (views .entry)) (now (bytes .entry)) t (now (nulls .entry)) (now (places .entry))
+    ensures { λ r. ⌜ ((t : List Block) → count ≡ length t → Files whyFinish finished s (now (views .entry)) (now (bytes .entry)) t
+        (now (nulls .entry)) (now (places .entry))
         (r .finished .answer) (now (views .entry)) (now (bytes .entry)) (set t (r .at) (r .block)) (now (nulls .entry)) (now (places .exit))
         × (r .finished .column ≡ finishColumn (filed s (now (views .entry)) (now (bytes .entry)) t (now (nulls .entry)) (now (places .entry))))) ⌝ }
 {
@@ -497,8 +500,10 @@ fn block_with(
 ) -> Laid
     ensures { λ r. ⌜ ((t : List Block) → count ≡ length t → Files (λ b. whyBlock b (now (x .entry))) (putBlock (now (x .entry))) s
         (now (views .entry)) (now (bytes .entry)) t (now (nulls .entry)) (now (places .entry))
-        (r .placed .answer) (now (views .entry)) (now (bytes .exit)) (set (set t (r .at) (r .block)) (r .next) (r .whole)) (now (nulls .entry)) (now (places .entry))
-        × (r .placed .block ≡ blockNumber (filed s (now (views .entry)) (now (bytes .entry)) t (now (nulls .entry)) (now (places .entry))) (now (x .entry)))) ⌝ }
+        (r .placed .answer) (now (views .entry)) (now (bytes .exit)) (set (set t (r .at) (r .block)) (r .next) (r .whole)) (now (nulls .entry))
+        (now (places .entry))
+        × (r .placed .block ≡ blockNumber (filed s (now (views .entry)) (now (bytes .entry)) t (now (nulls .entry)) (now (places .entry)))
+        (now (x .entry)))) ⌝ }
 {
     let w = why_block(
         s,
@@ -559,7 +564,8 @@ pub fn append_block(
     ensures { λ r. ⌜ Files (λ b. whyBlock b (now (x .entry))) (putBlock (now (x .entry))) s
         (now (views .entry)) (now (bytes .entry)) (now (table .entry)) (now (nulls .entry)) (now (places .entry))
         (r .answer) (now (views .entry)) (now (bytes .exit)) (now (table .exit)) (now (nulls .entry)) (now (places .entry))
-        × (r .block ≡ blockNumber (filed s (now (views .entry)) (now (bytes .entry)) (now (table .entry)) (now (nulls .entry)) (now (places .entry))) (now (x .entry))) ⌝ }
+        × (r .block ≡ blockNumber (filed s (now (views .entry)) (now (bytes .entry)) (now (table .entry)) (now (nulls .entry)) (now (places .entry)))
+        (now (x .entry))) ⌝ }
 {
     let n = table.len();
     let r = block_with(s, views, bytes, n, nulls, places, x);
@@ -632,9 +638,11 @@ fn long_with(
     x: &[u8],
     f: Found,
 ) -> Filed
-    requires { ⌜ Judged (held s (now views) (now bytes) (blank count) (blank count) (now nulls) (now places)) (now x) × (12 < length (now x)) × Sound f (s .rows) (length (now places)) ⌝ }
+    requires { ⌜ Judged (held s (now views) (now bytes) (blank count) (blank count) (now nulls) (now places)) (now x) × (12 < length (now x))
+        × Sound f (s .rows) (length (now places)) ⌝ }
     ensures { λ r. ⌜ (isAccepted (r .answer .why) ≡ true → r .answer .state .rows ≡ s .rows + 1)
-        × ((t : List Block) → count ≡ length t → f ≡ found (filed s (now (views .entry)) (now (bytes .entry)) t (now (nulls .entry)) (now (places .entry))) (now (x .entry))
+        × ((t : List Block) → count ≡ length t → f ≡ found (filed s (now (views .entry)) (now (bytes .entry)) t (now (nulls .entry))
+        (now (places .entry))) (now (x .entry))
         → Files (λ b. whyStore b (now (x .entry))) (putValue (now (x .entry))) s
         (now (views .entry)) (now (bytes .entry)) t (now (nulls .entry)) (now (places .entry))
         (r .answer) (now (views .exit)) (now (bytes .exit)) (set t (r .at) (r .block)) (now (nulls .exit)) (now (places .exit))) ⌝ }
@@ -705,9 +713,11 @@ fn add_with(
     x: &[u8],
     f: Found,
 ) -> Filed
-    requires { ⌜ Judged (held s (now views) (now bytes) (blank count) (blank count) (now nulls) (now places)) (now x) × Sound f (s .rows) (length (now places)) ⌝ }
+    requires { ⌜ Judged (held s (now views) (now bytes) (blank count) (blank count) (now nulls) (now places)) (now x)
+        × Sound f (s .rows) (length (now places)) ⌝ }
     ensures { λ r. ⌜ (isAccepted (r .answer .why) ≡ true → r .answer .state .rows ≡ s .rows + 1)
-        × ((t : List Block) → count ≡ length t → (12 < length (now (x .entry)) → f ≡ found (filed s (now (views .entry)) (now (bytes .entry)) t (now (nulls .entry)) (now (places .entry))) (now (x .entry)))
+        × ((t : List Block) → count ≡ length t → (12 < length (now (x .entry)) → f ≡ found (filed s (now (views .entry)) (now (bytes .entry)) t
+        (now (nulls .entry)) (now (places .entry))) (now (x .entry)))
         → Files (λ b. whyStore b (now (x .entry))) (putValue (now (x .entry))) s
         (now (views .entry)) (now (bytes .entry)) t (now (nulls .entry)) (now (places .entry))
         (r .answer) (now (views .exit)) (now (bytes .exit)) (set t (r .at) (r .block)) (now (nulls .exit)) (now (places .exit))) ⌝ }
@@ -809,7 +819,8 @@ pub struct Quest {
 
 // A search of the merge table for x, before its first place.
 fn begin(s: State, places: &[u32], x: &[u8]) -> Quest
-    ensures { λ q. ⌜ ((hit : ℕ → Bool) → 12 < length (now (x .entry)) → rest (now (places .entry)) hit q ≡ foundBy (s .merging) (now (places .entry)) hit (now (x .entry))) × (0 < q .left → q .place < length (now (places .entry))) ⌝ }
+    ensures { λ q. ⌜ ((hit : ℕ → Bool) → 12 < length (now (x .entry)) → rest (now (places .entry)) hit q ≡ foundBy (s .merging) (now (places .entry))
+        hit (now (x .entry))) × (0 < q .left → q .place < length (now (places .entry))) ⌝ }
 {
     let merging = s.merging;
     let n = places.len();
@@ -845,7 +856,8 @@ fn begin(s: State, places: &[u32], x: &[u8]) -> Quest
 // The number of the block that the view of the row entered at a place names; 0 where there is none.
 fn asks(views: &[u8], places: &[u32], place: usize) -> usize
     ensures { λ k. ⌜ (place < length (now (places .entry)) → (getD (now (places .entry)) place 0 ≡ 0 → ⊥)
-        → 16 * (getD (now (places .entry)) place 0 - 1) + 16 ≤ length (now (views .entry)) → k ≡ blockOf (viewAt (now (views .entry)) (getD (now (places .entry)) place 0 - 1))) ⌝ }
+        → 16 * (getD (now (places .entry)) place 0 - 1) + 16 ≤ length (now (views .entry))
+        → k ≡ blockOf (viewAt (now (views .entry)) (getD (now (places .entry)) place 0 - 1))) ⌝ }
 {
     if places.len() <= place {
         return 0;
@@ -859,7 +871,8 @@ fn asks(views: &[u8], places: &[u32], place: usize) -> usize
 
 // Whether row r is there and shows x, which is long, by the record that the table has of its block.
 fn shows_with(s: State, views: &[u8], bytes: &[u8], x: &[u8], r: usize, b: Block) -> bool
-    ensures { λ y. ⌜ ((ss ns : List ℕ) → Ready s (now (views .entry)) ss ns → allBlocks s ≤ blockLimit → 12 < length (now (x .entry)) → (r < s .rows → Names (now (views .entry)) r b ss ns)
+    ensures { λ y. ⌜ ((ss ns : List ℕ) → Ready s (now (views .entry)) ss ns → allBlocks s ≤ blockLimit → 12 < length (now (x .entry))
+        → (r < s .rows → Names (now (views .entry)) r b ss ns)
         → y ≡ showsRow s (bare (now (views .entry)) (now (bytes .entry)) ss ns) (now (x .entry)) r) ⌝ }
 {
     let blocks = s.blocks;
@@ -898,9 +911,12 @@ fn shows_with(s: State, views: &[u8], bytes: &[u8], x: &[u8], r: usize, b: Block
 // A search after its next place, by the record of the block that the view of the row entered there names.
 fn turn(s: State, views: &[u8], bytes: &[u8], places: &[u32], x: &[u8], q: Quest, b: Block) -> Quest
     ensures { λ r. ⌜ (0 < q .left → r .left < q .left)
-        × ((ss ns : List ℕ) → Ready s (now (views .entry)) ss ns → allBlocks s ≤ blockLimit → 12 < length (now (x .entry)) → q .place < length (now (places .entry)) → 0 < q .left
-        → ((getD (now (places .entry)) (q .place) 0 ≡ 0 → ⊥) → getD (now (places .entry)) (q .place) 0 - 1 < s .rows → Names (now (views .entry)) (getD (now (places .entry)) (q .place) 0 - 1) b ss ns)
-        → (rest (now (places .entry)) (showsRow s (bare (now (views .entry)) (now (bytes .entry)) ss ns) (now (x .entry))) r ≡ rest (now (places .entry)) (showsRow s (bare (now (views .entry)) (now (bytes .entry)) ss ns) (now (x .entry))) q)
+        × ((ss ns : List ℕ) → Ready s (now (views .entry)) ss ns → allBlocks s ≤ blockLimit → 12 < length (now (x .entry))
+        → q .place < length (now (places .entry)) → 0 < q .left
+        → ((getD (now (places .entry)) (q .place) 0 ≡ 0 → ⊥) → getD (now (places .entry)) (q .place) 0 - 1 < s .rows
+        → Names (now (views .entry)) (getD (now (places .entry)) (q .place) 0 - 1) b ss ns)
+        → (rest (now (places .entry)) (showsRow s (bare (now (views .entry)) (now (bytes .entry)) ss ns) (now (x .entry))) r
+        ≡ rest (now (places .entry)) (showsRow s (bare (now (views .entry)) (now (bytes .entry)) ss ns) (now (x .entry))) q)
         × (0 < r .left → r .place < length (now (places .entry)))) ⌝ }
 {
     let p = q.place;

@@ -174,7 +174,8 @@ fn no_column(kind: Kind) -> Column
 }
 
 pub fn refused(s: State) -> Finished
-    ensures { λ r. ⌜ (r .answer ≡ answer (Why.Refused Refusal.Fit) s) × (r .column ≡ record { first = 0; rows = 0; blocks = 0; kind = s .kind; mapped = false }) ⌝ }
+    ensures { λ r. ⌜ (r .answer ≡ answer (Why.Refused Refusal.Fit) s)
+        × (r .column ≡ record { first = 0; rows = 0; blocks = 0; kind = s .kind; mapped = false }) ⌝ }
 {
     let kind = s.kind;
     Finished {
@@ -196,9 +197,11 @@ pub fn finish_copy(
     nulls: &[u8],
     places: &[u32],
 ) -> Finished
-    ensures { λ r. ⌜ Does whyFinish copied s (now (views .entry)) (now (bytes .entry)) (now (starts .entry)) (now (lens .entry)) (now (nulls .entry)) (now (places .entry))
+    ensures { λ r. ⌜ Does whyFinish copied s (now (views .entry)) (now (bytes .entry)) (now (starts .entry)) (now (lens .entry)) (now (nulls .entry))
+        (now (places .entry))
         (r .answer) (now (views .entry)) (now (bytes .entry)) (now (starts .exit)) (now (lens .exit)) (now (nulls .entry)) (now (places .entry))
-        × (r .column ≡ finishColumn (held s (now (views .entry)) (now (bytes .entry)) (now (starts .entry)) (now (lens .entry)) (now (nulls .entry)) (now (places .entry)))) ⌝ }
+        × (r .column ≡ finishColumn (held s (now (views .entry)) (now (bytes .entry)) (now (starts .entry)) (now (lens .entry)) (now (nulls .entry))
+        (now (places .entry)))) ⌝ }
 {
     if !builder::fits_lent(s, views, bytes, &starts[..], &lens[..], nulls, places) {
         return refused(s);
@@ -223,9 +226,11 @@ pub fn finish(
     nulls: &[u8],
     places: &mut [u32],
 ) -> Finished
-    ensures { λ r. ⌜ Does whyFinish finished s (now (views .entry)) (now (bytes .entry)) (now (starts .entry)) (now (lens .entry)) (now (nulls .entry)) (now (places .entry))
+    ensures { λ r. ⌜ Does whyFinish finished s (now (views .entry)) (now (bytes .entry)) (now (starts .entry)) (now (lens .entry))
+        (now (nulls .entry)) (now (places .entry))
         (r .answer) (now (views .entry)) (now (bytes .entry)) (now (starts .exit)) (now (lens .exit)) (now (nulls .entry)) (now (places .exit))
-        × (r .column ≡ finishColumn (held s (now (views .entry)) (now (bytes .entry)) (now (starts .entry)) (now (lens .entry)) (now (nulls .entry)) (now (places .entry)))) ⌝ }
+        × (r .column ≡ finishColumn (held s (now (views .entry)) (now (bytes .entry)) (now (starts .entry)) (now (lens .entry)) (now (nulls .entry))
+        (now (places .entry)))) ⌝ }
 {
     if !builder::fits_lent(s, views, bytes, &starts[..], &lens[..], nulls, &places[..]) {
         return refused(s);
@@ -247,7 +252,8 @@ pub fn finish(
 // Whether the view of a row that is there is reachable, the open block under the next number.
 fn reaches(s: State, views: &[u8], bytes: &[u8], starts: &[usize], lens: &[usize], r: usize) -> bool
     requires { ⌜ Ready s (now views) (now starts) (now lens) × (r < s .rows) ⌝ }
-    ensures { λ y. ⌜ y ≡ reachable (recorded s (bare (now (views .entry)) (now (bytes .entry)) (now (starts .entry)) (now (lens .entry)))) (allBlocks s) (viewAt (now (views .entry)) r) ⌝ }
+    ensures { λ y. ⌜ y ≡ reachable (recorded s (bare (now (views .entry)) (now (bytes .entry)) (now (starts .entry)) (now (lens .entry))))
+        (allBlocks s) (viewAt (now (views .entry)) r) ⌝ }
 {
     let blocks = s.blocks;
     let base = s.base;
@@ -277,9 +283,12 @@ fn part<'a>(
     lens: &[usize],
     r: usize,
 ) -> &'a [u8]
-    requires { ⌜ Ready s (now views) (now starts) (now lens) × (r < s .rows) × (reachable (recorded s (bare (now views) (now bytes) (now starts) (now lens))) (allBlocks s) (viewAt (now views) r) ≡ true) ⌝ }
-    ensures { λ y. ⌜ (now y ≡ shown (blocksOf (recorded s (bare (now (views .entry)) (now (bytes .entry)) (now (starts .entry)) (now (lens .entry)))) (allBlocks s)) (viewAt (now (views .entry)) r))
-        × Stands (viewAt (now (views .entry)) r) r (placed s (now (starts .entry)) (viewAt (now (views .entry)) r)) (ptr (views .entry)) (ptr (bytes .entry)) (ptr y) ⌝ }
+    requires { ⌜ Ready s (now views) (now starts) (now lens) × (r < s .rows)
+        × (reachable (recorded s (bare (now views) (now bytes) (now starts) (now lens))) (allBlocks s) (viewAt (now views) r) ≡ true) ⌝ }
+    ensures { λ y. ⌜ (now y ≡ shown (blocksOf (recorded s (bare (now (views .entry)) (now (bytes .entry)) (now (starts .entry)) (now (lens .entry))))
+        (allBlocks s)) (viewAt (now (views .entry)) r))
+        × Stands (viewAt (now (views .entry)) r) r (placed s (now (starts .entry)) (viewAt (now (views .entry)) r)) (ptr (views .entry))
+        (ptr (bytes .entry)) (ptr y) ⌝ }
 {
     let blocks = s.blocks;
     let base = s.base;
@@ -306,7 +315,8 @@ pub fn why_get(
     places: &[u32],
     r: usize,
 ) -> Why
-    ensures { λ w. ⌜ w ≡ whyGet (held s (now (views .entry)) (now (bytes .entry)) (now (starts .entry)) (now (lens .entry)) (now (nulls .entry)) (now (places .entry))) r ⌝ }
+    ensures { λ w. ⌜ w ≡ whyGet (held s (now (views .entry)) (now (bytes .entry)) (now (starts .entry)) (now (lens .entry)) (now (nulls .entry))
+        (now (places .entry))) r ⌝ }
 {
     let rows = s.rows;
     if !builder::fits_lent(s, views, bytes, starts, lens, nulls, places) {
@@ -332,9 +342,12 @@ pub fn get_value<'a>(
     places: &[u32],
     r: usize,
 ) -> &'a [u8]
-    ensures { λ y. ⌜ (now y ≡ getValue (held s (now (views .entry)) (now (bytes .entry)) (now (starts .entry)) (now (lens .entry)) (now (nulls .entry)) (now (places .entry))) r)
-        × (isAccepted (whyGet (held s (now (views .entry)) (now (bytes .entry)) (now (starts .entry)) (now (lens .entry)) (now (nulls .entry)) (now (places .entry))) r) ≡ true
-        → Stands (viewAt (now (views .entry)) r) r (placed s (now (starts .entry)) (viewAt (now (views .entry)) r)) (ptr (views .entry)) (ptr (bytes .entry)) (ptr y)) ⌝ }
+    ensures { λ y. ⌜ (now y ≡ getValue (held s (now (views .entry)) (now (bytes .entry)) (now (starts .entry)) (now (lens .entry))
+        (now (nulls .entry)) (now (places .entry))) r)
+        × (isAccepted (whyGet (held s (now (views .entry)) (now (bytes .entry)) (now (starts .entry)) (now (lens .entry)) (now (nulls .entry))
+        (now (places .entry))) r) ≡ true
+        → Stands (viewAt (now (views .entry)) r) r (placed s (now (starts .entry)) (viewAt (now (views .entry)) r)) (ptr (views .entry))
+        (ptr (bytes .entry)) (ptr y)) ⌝ }
 {
     if !bounds::is_accepted(why_get(s, views, bytes, starts, lens, nulls, places, r)) {
         return &views[0..0];

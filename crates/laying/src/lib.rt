@@ -19,7 +19,8 @@ pub fn why_rooms(
     blocks: usize,
     total: usize,
 ) -> Why
-    ensures { λ r. ⌜ r ≡ whyRooms mapped rows blocks total (lent (now (views .entry)) (now (bytes .entry)) (now (starts .entry)) (now (lens .entry)) (now (nulls .entry))) ⌝ }
+    ensures { λ r. ⌜ r ≡ whyRooms mapped rows blocks total (lent (now (views .entry)) (now (bytes .entry)) (now (starts .entry)) (now (lens .entry))
+        (now (nulls .entry))) ⌝ }
 {
     let none = Column {
         first: 0,

@@ -100,7 +100,8 @@ pub fn copy_bits(map: &mut [u8], first: usize, src: &[u8], from: usize, rows: us
 
 // The same from a column, whose map may be absent: then each row is valid.
 pub fn copy_column(map: &mut [u8], first: usize, src: &[u8], mapped: bool, from: usize, rows: usize)
-    requires { ⌜ (first + rows ≤ 8 * length (now map)) × (first + rows < 2 ^ 64) × (mapped ≡ true → from + rows ≤ 8 * length (now src)) × (from + rows < 2 ^ 64) ⌝ }
+    requires { ⌜ (first + rows ≤ 8 * length (now map)) × (first + rows < 2 ^ 64) × (mapped ≡ true → from + rows ≤ 8 * length (now src))
+        × (from + rows < 2 ^ 64) ⌝ }
     ensures { λ r. ⌜ now (map .exit) ≡ copyColumn (now (map .entry)) first (now (src .entry)) mapped from rows ⌝ }
 {
     if mapped {

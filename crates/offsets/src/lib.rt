@@ -155,7 +155,8 @@ fn is_text(kind: Kind) -> bool
 
 // Whether one look at all bytes shows that each row is of the kind; a no says nothing.
 fn whole(offsets: &[u8], large: bool, bytes: &[u8], kind: Kind, rows: usize) -> bool
-    requires { ⌜ (rows < offsetCount (widthOf large) (now offsets)) × (rows < 2 ^ 62) × ((j : ℕ) → j < rows → CutIn (widthOf large) (now offsets) (length (now bytes)) j) ⌝ }
+    requires { ⌜ (rows < offsetCount (widthOf large) (now offsets)) × (rows < 2 ^ 62) × ((j : ℕ) → j < rows → CutIn (widthOf large) (now offsets)
+        (length (now bytes)) j) ⌝ }
     ensures { λ r. ⌜ (r ≡ true → (j : ℕ) → j < rows → ofKind kind (cutAt (widthOf large) (now (offsets .entry)) (now (bytes .entry)) j) ≡ true) ⌝ }
 {
     if !is_text(kind) {
@@ -218,7 +219,8 @@ fn judge<'a>(
     newlens: &[usize],
     newnulls: &[u8],
 ) -> Why
-    ensures { λ r. ⌜ r ≡ whyOffsets (widthOf large) (source (now (offsets .entry)) (now (bytes .entry)) (now (nulls .entry)) mapped) kind (lent (now (newviews .entry)) (now (newbytes .entry)) (now (newstarts .entry)) (now (newlens .entry)) (now (newnulls .entry))) ⌝ }
+    ensures { λ r. ⌜ r ≡ whyOffsets (widthOf large) (source (now (offsets .entry)) (now (bytes .entry)) (now (nulls .entry)) mapped) kind
+        (lent (now (newviews .entry)) (now (newbytes .entry)) (now (newstarts .entry)) (now (newlens .entry)) (now (newnulls .entry))) ⌝ }
 {
     let n = count(offsets, large);
     if n == 0 {
@@ -257,8 +259,10 @@ fn put_row<'a>(
     mapped: bool,
     j: usize,
 )
-    requires { ⌜ CutIn (widthOf large) (now offsets) (length (now bytes)) j × (mapped ≡ true → j / 8 < length (now nulls)) × (viewSize * j + viewSize ≤ length (now newviews)) × (length (now bytes) < 2 ^ 32) × (j < 2 ^ 59) ⌝ }
-    ensures { λ _. ⌜ now (newviews .exit) ≡ paste (now (newviews .entry)) (viewSize * j) (rowViewOf (widthOf large) (source (now (offsets .entry)) (now (bytes .entry)) (now (nulls .entry)) mapped) j) viewSize ⌝ }
+    requires { ⌜ CutIn (widthOf large) (now offsets) (length (now bytes)) j × (mapped ≡ true → j / 8 < length (now nulls))
+        × (viewSize * j + viewSize ≤ length (now newviews)) × (length (now bytes) < 2 ^ 32) × (j < 2 ^ 59) ⌝ }
+    ensures { λ _. ⌜ now (newviews .exit) ≡ paste (now (newviews .entry)) (viewSize * j) (rowViewOf (widthOf large) (source (now (offsets .entry))
+        (now (bytes .entry)) (now (nulls .entry)) mapped) j) viewSize ⌝ }
 {
     if !null_bits::valid_at(nulls, mapped, j) {
         views::zero_view(newviews, views::VIEW_SIZE * j);
@@ -279,8 +283,10 @@ fn write<'a>(
     mapped: bool,
     rows: usize,
 )
-    requires { ⌜ SourceIn (widthOf large) (source (now offsets) (now bytes) (now nulls) mapped) rows × (viewSize * rows ≤ length (now newviews)) × (length (now bytes) < 2 ^ 32) × (rows < 2 ^ 59) ⌝ }
-    ensures { λ _. ⌜ now (newviews .exit) ≡ putRows (now (newviews .entry)) (rowViewOf (widthOf large) (source (now (offsets .entry)) (now (bytes .entry)) (now (nulls .entry)) mapped)) rows ⌝ }
+    requires { ⌜ SourceIn (widthOf large) (source (now offsets) (now bytes) (now nulls) mapped) rows × (viewSize * rows ≤ length (now newviews))
+        × (length (now bytes) < 2 ^ 32) × (rows < 2 ^ 59) ⌝ }
+    ensures { λ _. ⌜ now (newviews .exit) ≡ putRows (now (newviews .entry)) (rowViewOf (widthOf large) (source (now (offsets .entry))
+        (now (bytes .entry)) (now (nulls .entry)) mapped)) rows ⌝ }
 {
     let mut j = 0;
     while j < rows {
@@ -310,7 +316,9 @@ fn convert<'a>(
     newlens: &mut [usize],
     newnulls: &mut [u8],
 ) -> Outcome
-    ensures { λ r. ⌜ Converted (widthOf large) (source (now (offsets .entry)) (now (bytes .entry)) (now (nulls .entry)) mapped) kind (now (newviews .entry)) (now (newbytes .entry)) (now (newstarts .entry)) (now (newlens .entry)) (now (newnulls .entry)) r (now (newviews .exit)) (now (newbytes .exit)) (now (newstarts .exit)) (now (newlens .exit)) (now (newnulls .exit)) ⌝ }
+    ensures { λ r. ⌜ Converted (widthOf large) (source (now (offsets .entry)) (now (bytes .entry)) (now (nulls .entry)) mapped) kind
+        (now (newviews .entry)) (now (newbytes .entry)) (now (newstarts .entry)) (now (newlens .entry)) (now (newnulls .entry)) r
+        (now (newviews .exit)) (now (newbytes .exit)) (now (newstarts .exit)) (now (newlens .exit)) (now (newnulls .exit)) ⌝ }
 {
     let why = judge(
         offsets,
@@ -368,7 +376,9 @@ pub fn from_offsets<'a>(
     newlens: &mut [usize],
     newnulls: &mut [u8],
 ) -> Outcome
-    ensures { λ r. ⌜ Converted 4 (source (now (offsets .entry)) (now (bytes .entry)) (now (nulls .entry)) mapped) kind (now (newviews .entry)) (now (newbytes .entry)) (now (newstarts .entry)) (now (newlens .entry)) (now (newnulls .entry)) r (now (newviews .exit)) (now (newbytes .exit)) (now (newstarts .exit)) (now (newlens .exit)) (now (newnulls .exit)) ⌝ }
+    ensures { λ r. ⌜ Converted 4 (source (now (offsets .entry)) (now (bytes .entry)) (now (nulls .entry)) mapped) kind (now (newviews .entry))
+        (now (newbytes .entry)) (now (newstarts .entry)) (now (newlens .entry)) (now (newnulls .entry)) r (now (newviews .exit))
+        (now (newbytes .exit)) (now (newstarts .exit)) (now (newlens .exit)) (now (newnulls .exit)) ⌝ }
 {
     convert(
         offsets,

@@ -73,7 +73,9 @@ fn cut<'a>(
     newnulls: &mut [u8],
 ) -> Outcome
     requires { ⌜ (n ≤ length (now newstarts)) × (n ≤ length (now newlens)) ⌝ }
-    ensures { λ r. ⌜ Apart (source (now (offsets .entry)) (now (bytes .entry)) (now (nulls .entry)) (how .mapped)) (how .kind) (now (newviews .entry)) (now (newbytes .entry)) (tableOf (take n (now (newstarts .entry))) (take n (now (newlens .entry)))) (now (newnulls .entry)) r (now (newviews .exit)) (now (newbytes .exit)) (now (newnulls .exit)) ⌝ }
+    ensures { λ r. ⌜ Apart (source (now (offsets .entry)) (now (bytes .entry)) (now (nulls .entry)) (how .mapped)) (how .kind) (now (newviews .entry))
+        (now (newbytes .entry)) (tableOf (take n (now (newstarts .entry))) (take n (now (newlens .entry)))) (now (newnulls .entry)) r
+        (now (newviews .exit)) (now (newbytes .exit)) (now (newnulls .exit)) ⌝ }
 {
     let mapped = how.mapped;
     let kind = how.kind;
@@ -102,7 +104,9 @@ fn convert_with<'a>(
     count: usize,
     newnulls: &mut [u8],
 ) -> Made
-    ensures { λ r. ⌜ ((t : List Block) → count ≡ length t → Tabled (source (now (offsets .entry)) (now (bytes .entry)) (now (nulls .entry)) (how .mapped)) (how .kind) (now (newviews .entry)) (now (newbytes .entry)) t (now (newnulls .entry)) (r .outcome) (now (newviews .exit)) (now (newbytes .exit)) (set t (r .at) (r .block)) (now (newnulls .exit))) ⌝ }
+    ensures { λ r. ⌜ ((t : List Block) → count ≡ length t → Tabled (source (now (offsets .entry)) (now (bytes .entry)) (now (nulls .entry))
+        (how .mapped)) (how .kind) (now (newviews .entry)) (now (newbytes .entry)) t (now (newnulls .entry)) (r .outcome) (now (newviews .exit))
+        (now (newbytes .exit)) (set t (r .at) (r .block)) (now (newnulls .exit))) ⌝ }
 {
     let mut starts = [0usize; 1];
     let mut lens = [0usize; 1];
@@ -140,7 +144,9 @@ pub fn from_offsets<'a>(
     table: &mut [Block],
     newnulls: &mut [u8],
 ) -> Outcome
-    ensures { λ r. ⌜ Tabled (source (now (offsets .entry)) (now (bytes .entry)) (now (nulls .entry)) (how .mapped)) (how .kind) (now (newviews .entry)) (now (newbytes .entry)) (now (table .entry)) (now (newnulls .entry)) r (now (newviews .exit)) (now (newbytes .exit)) (now (table .exit)) (now (newnulls .exit)) ⌝ }
+    ensures { λ r. ⌜ Tabled (source (now (offsets .entry)) (now (bytes .entry)) (now (nulls .entry)) (how .mapped)) (how .kind)
+        (now (newviews .entry)) (now (newbytes .entry)) (now (table .entry)) (now (newnulls .entry)) r (now (newviews .exit)) (now (newbytes .exit))
+        (now (table .exit)) (now (newnulls .exit)) ⌝ }
 {
     let n = table.len();
     let made = convert_with(offsets, bytes, nulls, how, newviews, newbytes, n, newnulls);

@@ -90,7 +90,10 @@ pub extern "C" fn tambuyeel_compact<'a>(
     newnulls: &mut [u8],
     newcolumn: &mut [usize; 5],
 ) -> Told
-    ensures { λ r. ⌜ Compacts most (lent (now (views .entry)) (now (bytes .entry)) (now (starts .entry)) (now (lens .entry)) (now (nulls .entry))) (columnOf (now (column .entry))) (now (newviews .entry)) (now (newbytes .entry)) (now (newstarts .entry)) (now (newlens .entry)) (now (newnulls .entry)) (now (newcolumn .entry)) r (now (newviews .exit)) (now (newbytes .exit)) (now (newstarts .exit)) (now (newlens .exit)) (now (newnulls .exit)) (now (newcolumn .exit)) ⌝ }
+    ensures { λ r. ⌜ Compacts most (lent (now (views .entry)) (now (bytes .entry)) (now (starts .entry)) (now (lens .entry)) (now (nulls .entry)))
+        (columnOf (now (column .entry))) (now (newviews .entry)) (now (newbytes .entry)) (now (newstarts .entry)) (now (newlens .entry))
+        (now (newnulls .entry)) (now (newcolumn .entry)) r (now (newviews .exit)) (now (newbytes .exit)) (now (newstarts .exit)) (now (newlens .exit))
+        (now (newnulls .exit)) (now (newcolumn .exit)) ⌝ }
 {
     let done = compaction::compact(
         views,
@@ -127,7 +130,10 @@ pub extern "C" fn tambuyeel_from_offsets<'a>(
     newnulls: &mut [u8],
     newcolumn: &mut [usize; 5],
 ) -> u64
-    ensures { λ r. ⌜ Converts (source (now (offsets .entry)) (now (bytes .entry)) (now (nulls .entry)) (not (eqb mapped 0))) (kindOf (eqb kind 0)) (now (newviews .entry)) (now (newbytes .entry)) (now (newstarts .entry)) (now (newlens .entry)) (now (newnulls .entry)) (now (newcolumn .entry)) r (now (newviews .exit)) (now (newbytes .exit)) (now (newstarts .exit)) (now (newlens .exit)) (now (newnulls .exit)) (now (newcolumn .exit)) ⌝ }
+    ensures { λ r. ⌜ Converts (source (now (offsets .entry)) (now (bytes .entry)) (now (nulls .entry)) (not (eqb mapped 0))) (kindOf (eqb kind 0))
+        (now (newviews .entry)) (now (newbytes .entry)) (now (newstarts .entry)) (now (newlens .entry)) (now (newnulls .entry))
+        (now (newcolumn .entry)) r (now (newviews .exit)) (now (newbytes .exit)) (now (newstarts .exit)) (now (newlens .exit)) (now (newnulls .exit))
+        (now (newcolumn .exit)) ⌝ }
 {
     let done = offsets::from_offsets(
         offsets,

@@ -182,7 +182,8 @@ pub fn value<'a>(
     row: usize,
 ) -> &'a [u8]
     ensures { λ r. ⌜ (now r ≡ spec.valueAt (lentOf (views .entry) (bytes .entry) (starts .entry) (lens .entry) (nulls .entry)) c row)
-        × (ptr r ≡ spec.pointsAt (lentOf (views .entry) (bytes .entry) (starts .entry) (lens .entry) (nulls .entry)) c row (ptr (views .entry)) (ptr (bytes .entry))) ⌝ }
+        × (ptr r ≡ spec.pointsAt (lentOf (views .entry) (bytes .entry) (starts .entry) (lens .entry) (nulls .entry)) c row (ptr (views .entry))
+        (ptr (bytes .entry))) ⌝ }
 {
     let l = locate(views, bytes, starts, lens, nulls, c, row);
     part_of(views, bytes, l)
@@ -199,7 +200,8 @@ pub fn value_with<'a>(
 ) -> &'a [u8]
     ensures { λ r. ⌜ ((table : List Block) → Sees table (now (views .entry)) (c .first + row) s
         → (now r ≡ spec.valueAt (buffers (now (views .entry)) (now (bytes .entry)) table (now (nulls .entry))) c row)
-        × (ptr r ≡ spec.pointsAt (buffers (now (views .entry)) (now (bytes .entry)) table (now (nulls .entry))) c row (ptr (views .entry)) (ptr (bytes .entry)))) ⌝ }
+        × (ptr r ≡ spec.pointsAt (buffers (now (views .entry)) (now (bytes .entry)) table (now (nulls .entry))) c row (ptr (views .entry))
+        (ptr (bytes .entry)))) ⌝ }
 {
     let l = locate_with(views, bytes, nulls, c, row, s);
     part_of(views, bytes, l)
@@ -217,7 +219,8 @@ pub fn prefix<'a>(
     n: usize,
 ) -> &'a [u8]
     ensures { λ r. ⌜ (now r ≡ spec.prefixAt (lentOf (views .entry) (bytes .entry) (starts .entry) (lens .entry) (nulls .entry)) c row n)
-        × (ptr r ≡ spec.pointsAt (lentOf (views .entry) (bytes .entry) (starts .entry) (lens .entry) (nulls .entry)) c row (ptr (views .entry)) (ptr (bytes .entry))) ⌝ }
+        × (ptr r ≡ spec.pointsAt (lentOf (views .entry) (bytes .entry) (starts .entry) (lens .entry) (nulls .entry)) c row (ptr (views .entry))
+        (ptr (bytes .entry))) ⌝ }
 {
     let v = value(views, bytes, starts, lens, nulls, c, row);
     if v.len() < n {
@@ -238,7 +241,9 @@ pub fn suffix<'a>(
     n: usize,
 ) -> &'a [u8]
     ensures { λ r. ⌜ (now r ≡ spec.suffixAt (lentOf (views .entry) (bytes .entry) (starts .entry) (lens .entry) (nulls .entry)) c row n)
-        × (ptr r ≡ further (spec.pointsAt (lentOf (views .entry) (bytes .entry) (starts .entry) (lens .entry) (nulls .entry)) c row (ptr (views .entry)) (ptr (bytes .entry))) (spec.skipOf n (spec.valueAt (lentOf (views .entry) (bytes .entry) (starts .entry) (lens .entry) (nulls .entry)) c row))) ⌝ }
+        × (ptr r ≡ further (spec.pointsAt (lentOf (views .entry) (bytes .entry) (starts .entry) (lens .entry) (nulls .entry)) c row
+        (ptr (views .entry)) (ptr (bytes .entry))) (spec.skipOf n (spec.valueAt (lentOf (views .entry) (bytes .entry) (starts .entry)
+        (lens .entry) (nulls .entry)) c row))) ⌝ }
 {
     let v = value(views, bytes, starts, lens, nulls, c, row);
     let len = v.len();
@@ -498,7 +503,8 @@ pub fn walk_value<'a>(
     cursor: Cursor,
 ) -> &'a [u8]
     ensures { λ r. ⌜ (now r ≡ walkValue (lentOf (views .entry) (bytes .entry) (starts .entry) (lens .entry) (nulls .entry)) c cursor)
-        × (ptr r ≡ spec.pointsAt (lentOf (views .entry) (bytes .entry) (starts .entry) (lens .entry) (nulls .entry)) c (cursor .at) (ptr (views .entry)) (ptr (bytes .entry))) ⌝ }
+        × (ptr r ≡ spec.pointsAt (lentOf (views .entry) (bytes .entry) (starts .entry) (lens .entry) (nulls .entry)) c (cursor .at)
+        (ptr (views .entry)) (ptr (bytes .entry))) ⌝ }
 {
     let at = cursor.at;
     value(views, bytes, starts, lens, nulls, c, at)

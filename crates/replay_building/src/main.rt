@@ -1,5 +1,7 @@
-// Replays data/building.bin, the fixed list of builder calls that oracle/README.md lays out, through the calls for C and Rust: groups of calls on one builder, from its start on.
-// After each call its answer, the whole state and a column answered are compared, and after a group every lent buffer. Writes how many groups, calls and refusals there were,
+// Replays data/building.bin, the fixed list of builder calls that oracle/README.md lays out, through the calls for C and Rust: groups of calls on one
+// builder, from its start on.
+// After each call its answer, the whole state and a column answered are compared, and after a group every lent buffer. Writes how many groups, calls
+// and refusals there were,
 // how many calls and how many groups' buffers differed, the first such call, and whether the list ended inside a group.
 mod input;
 

@@ -166,7 +166,8 @@ fn compact<'a>(
     newnulls: &mut [u8],
     s: Sizes,
 ) -> Said
-    requires { ⌜ (s .views ≤ length (now newviews)) × (s .bytes ≤ length (now newbytes)) × (s .blocks ≤ length (now newstarts)) × (s .blocks ≤ length (now newlens)) × (s .nulls ≤ length (now newnulls)) ⌝ }
+    requires { ⌜ (s .views ≤ length (now newviews)) × (s .bytes ≤ length (now newbytes)) × (s .blocks ≤ length (now newstarts))
+        × (s .blocks ≤ length (now newlens)) × (s .nulls ≤ length (now newnulls)) ⌝ }
 {
     let nv = s.views;
     let nb = s.bytes;
@@ -205,7 +206,8 @@ fn convert<'a>(
     newnulls: &mut [u8],
     s: Sizes,
 ) -> Said
-    requires { ⌜ (s .views ≤ length (now newviews)) × (s .bytes ≤ length (now newbytes)) × (s .blocks ≤ length (now newstarts)) × (s .blocks ≤ length (now newlens)) × (s .nulls ≤ length (now newnulls)) ⌝ }
+    requires { ⌜ (s .views ≤ length (now newviews)) × (s .bytes ≤ length (now newbytes)) × (s .blocks ≤ length (now newstarts))
+        × (s .blocks ≤ length (now newlens)) × (s .nulls ≤ length (now newnulls)) ⌝ }
 {
     let nv = s.views;
     let nb = s.bytes;

@@ -1,4 +1,5 @@
-// What a call says, as the fixed list has it: the refusal's number with its row and side, a number, the length of a slice; and whether a part is the one expected.
+// What a call says, as the fixed list has it: the refusal's number with its row and side, a number, the length of a slice; and whether a part is the
+// one expected.
 use bounds::Refusal;
 use bounds::Why;
 use comparison::Compared;

@@ -96,7 +96,8 @@ fn turn(
     line: &[u8],
 ) -> State
     ensures { λ r. ⌜ held r (now (views .exit)) (now (bytes .exit)) (now (starts .exit)) (now (lens .exit)) (now (nulls .exit)) (now (places .exit))
-        ≡ added (now (line .entry)) (held s (now (views .entry)) (now (bytes .entry)) (now (starts .entry)) (now (lens .entry)) (now (nulls .entry)) (now (places .entry))) ⌝ }
+        ≡ added (now (line .entry)) (held s (now (views .entry)) (now (bytes .entry)) (now (starts .entry)) (now (lens .entry)) (now (nulls .entry))
+        (now (places .entry))) ⌝ }
 {
     let what = says(line);
     match what {
@@ -143,7 +144,8 @@ fn add_lines(
     input: &[u8],
 ) -> State
     ensures { λ r. ⌜ held r (now (views .exit)) (now (bytes .exit)) (now (starts .exit)) (now (lens .exit)) (now (nulls .exit)) (now (places .exit))
-        ≡ addedAll (lines (now (input .entry))) (held before (now (views .entry)) (now (bytes .entry)) (now (starts .entry)) (now (lens .entry)) (now (nulls .entry)) (now (places .entry))) ⌝ }
+        ≡ addedAll (lines (now (input .entry))) (held before (now (views .entry)) (now (bytes .entry)) (now (starts .entry)) (now (lens .entry))
+        (now (nulls .entry)) (now (places .entry))) ⌝ }
 {
     let mut s = before;
     let mut at = 0;
@@ -165,9 +167,11 @@ pub fn build(
     places: &mut [u32],
     input: &[u8],
 ) -> Column
-    ensures { λ r. ⌜ (r ≡ shelfColumn (built (now (input .entry)) (now (views .entry)) (now (bytes .entry)) (now (starts .entry)) (now (lens .entry)) (now (nulls .entry)) (now (places .entry))))
+    ensures { λ r. ⌜ (r ≡ shelfColumn (built (now (input .entry)) (now (views .entry)) (now (bytes .entry)) (now (starts .entry)) (now (lens .entry))
+        (now (nulls .entry)) (now (places .entry))))
         × (lent (now (views .exit)) (now (bytes .exit)) (now (starts .exit)) (now (lens .exit)) (now (nulls .exit))
-        ≡ shelfLent (built (now (input .entry)) (now (views .entry)) (now (bytes .entry)) (now (starts .entry)) (now (lens .entry)) (now (nulls .entry)) (now (places .entry)))) ⌝ }
+        ≡ shelfLent (built (now (input .entry)) (now (views .entry)) (now (bytes .entry)) (now (starts .entry)) (now (lens .entry))
+        (now (nulls .entry)) (now (places .entry)))) ⌝ }
 {
     let begun = finishing::start(
         Settings {

@@ -120,7 +120,8 @@ fn ascii(s: &[u8], at: usize) -> usize
     i
 }
 
-// Where the first ill-formed sequence begins: all before that place is well formed, and no well-formed sequence starts there. In a well-formed text it is the end.
+// Where the first ill-formed sequence begins: all before that place is well formed, and no well-formed sequence starts there. In a well-formed text
+// it is the end.
 pub fn first_bad(s: &[u8]) -> usize
     ensures { λ r. ⌜ r ≡ firstBad (now (s .entry)) ⌝ }
 {

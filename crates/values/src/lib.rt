@@ -47,7 +47,8 @@ fn why_row(kind: Kind, x: &[u8], rows: usize, more: usize, room: usize) -> Why
 // 2, 4, 10 and 5; no row is accepted whatever the value.
 pub fn why_first(s: State, rows: usize, blocks: usize, bytes: usize, x: &[u8], n: usize) -> Why
     requires { ⌜ blocks ≤ blockLimit ⌝ }
-    ensures { λ r. ⌜ r ≡ refuse Refusal.Fit (not (fitsRooms s rows blocks bytes)) (pick (eqb n 0) Why.Accepted (whyRow (s .kind) (now (x .entry)) (s .rows) n rows Why.Accepted)) ⌝ }
+    ensures { λ r. ⌜ r ≡ refuse Refusal.Fit (not (fitsRooms s rows blocks bytes)) (pick (eqb n 0) Why.Accepted (whyRow (s .kind) (now (x .entry))
+        (s .rows) n rows Why.Accepted)) ⌝ }
 {
     if !builder::state_fits(s, rows, blocks, bytes) {
         return Why::Refused(Refusal::Fit);
@@ -84,7 +85,8 @@ fn null_call(
     nulls: &mut [u8],
     places: &[u32],
 ) -> Answer
-    ensures { λ r. ⌜ Does whyNull putNull s (now (views .entry)) (now (bytes .entry)) (now (starts .entry)) (now (lens .entry)) (now (nulls .entry)) (now (places .entry))
+    ensures { λ r. ⌜ Does whyNull putNull s (now (views .entry)) (now (bytes .entry)) (now (starts .entry)) (now (lens .entry)) (now (nulls .entry))
+        (now (places .entry))
         r (now (views .exit)) (now (bytes .entry)) (now (starts .entry)) (now (lens .entry)) (now (nulls .exit)) (now (places .entry)) ⌝ }
 {
     let merging = s.merging;
@@ -153,7 +155,8 @@ pub fn fresh(s: State, n: usize) -> State
 // The open block takes n bytes more, or it is completed and a new one does.
 fn make_room(s: State, starts: &mut [usize], lens: &mut [usize], n: usize) -> State
     requires { ⌜ (allBlocks s ≤ length (now starts)) × (allBlocks s ≤ length (now lens)) × (used s + n < 2 ^ 64) × (fitsGrowth (s .growth) ≡ true) ⌝ }
-    ensures { λ r. ⌜ (r ≡ roomed n s) × (now (starts .exit) ≡ pick (fitsOpen s n) (now (starts .entry)) (openStarts s (now (starts .entry)))) × (now (lens .exit) ≡ pick (fitsOpen s n) (now (lens .entry)) (openLens s (now (lens .entry)))) ⌝ }
+    ensures { λ r. ⌜ (r ≡ roomed n s) × (now (starts .exit) ≡ pick (fitsOpen s n) (now (starts .entry)) (openStarts s (now (starts .entry))))
+        × (now (lens .exit) ≡ pick (fitsOpen s n) (now (lens .entry)) (openLens s (now (lens .entry)))) ⌝ }
 {
     if fits_open(s, n) {
         return s;
@@ -286,7 +289,8 @@ fn find(
     x: &[u8],
 ) -> Found
     requires { ⌜ Ready s (now views) (now starts) (now lens) × (12 < length (now x)) ⌝ }
-    ensures { λ f. ⌜ f ≡ foundBy (s .merging) (now (places .entry)) (showsRow s (bare (now (views .entry)) (now (bytes .entry)) (now (starts .entry)) (now (lens .entry))) (now (x .entry))) (now (x .entry)) ⌝ }
+    ensures { λ f. ⌜ f ≡ foundBy (s .merging) (now (places .entry)) (showsRow s (bare (now (views .entry)) (now (bytes .entry)) (now (starts .entry))
+        (now (lens .entry))) (now (x .entry))) (now (x .entry)) ⌝ }
 {
     let merging = s.merging;
     if !does_merge(merging, x.len()) {
@@ -575,7 +579,8 @@ pub fn append_null(
     nulls: &mut [u8],
     places: &[u32],
 ) -> Answer
-    ensures { λ r. ⌜ Does whyNull putNull s (now (views .entry)) (now (bytes .entry)) (now (starts .entry)) (now (lens .entry)) (now (nulls .entry)) (now (places .entry))
+    ensures { λ r. ⌜ Does whyNull putNull s (now (views .entry)) (now (bytes .entry)) (now (starts .entry)) (now (lens .entry)) (now (nulls .entry))
+        (now (places .entry))
         r (now (views .exit)) (now (bytes .entry)) (now (starts .entry)) (now (lens .entry)) (now (nulls .exit)) (now (places .entry)) ⌝ }
 {
     null_call(builder::anew(s), views, bytes, starts, lens, nulls, places)

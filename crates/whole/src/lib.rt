@@ -62,7 +62,8 @@ fn closing_piece(
     c: Column,
     out: &mut [u8; ROOM],
 ) -> usize
-    ensures { λ r. ⌜ Holds (now (out .exit)) r (closingOf (lent (now (views .entry)) (now (bytes .entry)) (now (starts .entry)) (now (lens .entry)) (now (nulls .entry))) c) ⌝ }
+    ensures { λ r. ⌜ Holds (now (out .exit)) r (closingOf (lent (now (views .entry)) (now (bytes .entry)) (now (starts .entry)) (now (lens .entry))
+        (now (nulls .entry))) c) ⌝ }
 {
     let rows = c.rows;
     let blocks = c.blocks;
@@ -89,7 +90,8 @@ fn row_piece(
     out: &mut [u8; ROOM],
 ) -> Piece
     requires { ⌜ (k < itemCount (c .rows)) × (item.Row row ≡ itemAt (c .rows) k) ⌝ }
-    ensures { λ r. ⌜ Wrote (lent (now (views .entry)) (now (bytes .entry)) (now (starts .entry)) (now (lens .entry)) (now (nulls .entry))) c (linesFrom (lent (now (views .entry)) (now (bytes .entry)) (now (starts .entry)) (now (lens .entry)) (now (nulls .entry))) c k) (now (out .exit)) r ⌝ }
+    ensures { λ r. ⌜ Wrote (lent (now (views .entry)) (now (bytes .entry)) (now (starts .entry)) (now (lens .entry)) (now (nulls .entry))) c
+        (linesFrom (lent (now (views .entry)) (now (bytes .entry)) (now (starts .entry)) (now (lens .entry)) (now (nulls .entry))) c k) (now (out .exit)) r ⌝ }
 {
     let bit = reading::null_bit(views, bytes, starts, lens, nulls, c, row);
     match bit {
@@ -119,7 +121,8 @@ fn line_piece(
     k: usize,
     out: &mut [u8; ROOM],
 ) -> Piece
-    ensures { λ r. ⌜ Wrote (lent (now (views .entry)) (now (bytes .entry)) (now (starts .entry)) (now (lens .entry)) (now (nulls .entry))) c (linesFrom (lent (now (views .entry)) (now (bytes .entry)) (now (starts .entry)) (now (lens .entry)) (now (nulls .entry))) c k) (now (out .exit)) r ⌝ }
+    ensures { λ r. ⌜ Wrote (lent (now (views .entry)) (now (bytes .entry)) (now (starts .entry)) (now (lens .entry)) (now (nulls .entry))) c
+        (linesFrom (lent (now (views .entry)) (now (bytes .entry)) (now (starts .entry)) (now (lens .entry)) (now (nulls .entry))) c k) (now (out .exit)) r ⌝ }
 {
     let rows = c.rows;
     if shelf::items(rows) <= k {
@@ -167,7 +170,9 @@ fn part_piece<'a>(
     at: usize,
     out: &mut [u8; ROOM],
 ) -> Piece
-    ensures { λ r. ⌜ Wrote (lent (now (views .entry)) (now (bytes .entry)) (now (starts .entry)) (now (lens .entry)) (now (nulls .entry))) c (partsFrom (lent (now (views .entry)) (now (bytes .entry)) (now (starts .entry)) (now (lens .entry)) (now (nulls .entry))) c k at) (now (out .exit)) r ⌝ }
+    ensures { λ r. ⌜ Wrote (lent (now (views .entry)) (now (bytes .entry)) (now (starts .entry)) (now (lens .entry)) (now (nulls .entry))) c
+        (partsFrom (lent (now (views .entry)) (now (bytes .entry)) (now (starts .entry)) (now (lens .entry)) (now (nulls .entry))) c k at)
+        (now (out .exit)) r ⌝ }
 {
     let rows = c.rows;
     if shelf::items(rows) <= k {
@@ -209,7 +214,8 @@ pub fn next_piece<'a>(
     p: Place,
     out: &mut [u8; ROOM],
 ) -> Piece
-    ensures { λ r. ⌜ Wrote (lent (now (views .entry)) (now (bytes .entry)) (now (starts .entry)) (now (lens .entry)) (now (nulls .entry))) c (restOf (lent (now (views .entry)) (now (bytes .entry)) (now (starts .entry)) (now (lens .entry)) (now (nulls .entry))) c p) (now (out .exit)) r ⌝ }
+    ensures { λ r. ⌜ Wrote (lent (now (views .entry)) (now (bytes .entry)) (now (starts .entry)) (now (lens .entry)) (now (nulls .entry))) c
+        (restOf (lent (now (views .entry)) (now (bytes .entry)) (now (starts .entry)) (now (lens .entry)) (now (nulls .entry))) c p) (now (out .exit)) r ⌝ }
 {
     match p {
         Place::Refused(n) => Piece {

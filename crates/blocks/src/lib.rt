@@ -25,23 +25,6 @@ use column::Column;
 use column::Seen;
 use comparison::Compared;
 
-// How many records the table has.
-pub fn count(table: &[Block]) -> usize
-    ensures { λ r. ⌜ r ≡ length (now (table .entry)) ⌝ }
-{
-    table.len()
-}
-
-// The record of block k, or `other` where the table has none.
-pub fn block_or(table: &[Block], k: usize, other: Block) -> Block
-    ensures { λ r. ⌜ r ≡ getD (now (table .entry)) k other ⌝ }
-{
-    if k < table.len() {
-        return table[k];
-    }
-    other
-}
-
 // The number of the block that a row's view names; where the views have no such row, 0.
 fn block_of(views: &[u8], c: Column, row: usize) -> usize
     ensures { λ k. ⌜ (viewSize * (c .first + row) + viewSize ≤ length (now (views .entry)) → k ≡ blockOf (viewAt (now (views .entry)) (c .first + row))) ⌝ }
@@ -62,8 +45,8 @@ fn look<'a>(views: &'a [u8], table: &'a [Block], c: Column, row: usize) -> Seen
     ensures { λ s. ⌜ Sees (now (table .entry)) (now (views .entry)) (c .first + row) s ⌝ }
 {
     let k = block_of(views, c, row);
-    let b = block_or(table, k, Block { start: 0, len: 0 });
-    let n = count(table);
+    let b = tables::block_or(table, k, Block { start: 0, len: 0 });
+    let n = tables::count(table);
     Seen { count: n, block: b }
 }
 
@@ -309,7 +292,7 @@ fn holds<'a>(
     ensures { λ r. ⌜ Answers (now (views .entry)) (now (bytes .entry)) (now (table .entry)) c places k r ⌝ }
 {
     let p = place_of(views, c, k);
-    let b = block_or(table, p, Block { start: 0, len: 0 });
+    let b = tables::block_or(table, p, Block { start: 0, len: 0 });
     judge(views, bytes, c, places, k, b)
 }
 
@@ -340,7 +323,7 @@ pub fn check<'a>(
 ) -> Why
     ensures { λ w. ⌜ w ≡ whyInvalid (buffers (now (views .entry)) (now (bytes .entry)) (now (table .entry)) (now (nulls .entry))) c ⌝ }
 {
-    let n = count(table);
+    let n = tables::count(table);
     let places = places_with(views, nulls, c, n);
     let k = stop_at(views, bytes, table, c, places);
     check_with(views, nulls, c, n, k)

@@ -52,16 +52,6 @@ pub struct Ended {
     pub block: Block,
 }
 
-// The record of block k becomes b; past the table's end nothing changes.
-pub fn put_or(table: &mut [Block], k: usize, b: Block)
-    ensures { λ _. ⌜ now (table .exit) ≡ set (now (table .entry)) k b ⌝ }
-{
-    if k < table.len() {
-        table[k] = b;
-        return;
-    }
-}
-
 // Whether a state fits what is lent, by the lengths, and by the count of the records.
 fn fits_with(
     s: State,
@@ -210,7 +200,7 @@ pub fn finish_copy(
 {
     let n = table.len();
     let r = copy_with(s, views, bytes, n, nulls, places);
-    put_or(table, r.at, r.block);
+    tables::put_or(table, r.at, r.block);
     r.finished
 }
 
@@ -278,7 +268,7 @@ pub fn finish(
 {
     let n = table.len();
     let r = finish_with(s, views, bytes, n, nulls, places);
-    put_or(table, r.at, r.block);
+    tables::put_or(table, r.at, r.block);
     r.finished
 }
 
@@ -429,7 +419,7 @@ pub fn why_get<'a>(
     ensures { λ w. ⌜ w ≡ whyGet (filed s (now (views .entry)) (now (bytes .entry)) (now (table .entry)) (now (nulls .entry)) (now (places .entry))) r ⌝ }
 {
     let k = named(views, r);
-    let b = blocks::block_or(table, k, Block { start: 0, len: 0 });
+    let b = tables::block_or(table, k, Block { start: 0, len: 0 });
     let n = table.len();
     why_with(s, views, bytes, n, b, nulls, places, r)
 }
@@ -447,7 +437,7 @@ pub fn get_value<'a>(
     ensures { λ y. ⌜ now y ≡ getValue (filed s (now (views .entry)) (now (bytes .entry)) (now (table .entry)) (now (nulls .entry)) (now (places .entry))) r ⌝ }
 {
     let k = named(views, r);
-    let b = blocks::block_or(table, k, Block { start: 0, len: 0 });
+    let b = tables::block_or(table, k, Block { start: 0, len: 0 });
     let n = table.len();
     get_with(s, views, bytes, n, b, nulls, places, r)
 }
@@ -569,8 +559,8 @@ pub fn append_block(
 {
     let n = table.len();
     let r = block_with(s, views, bytes, n, nulls, places, x);
-    put_or(table, r.at, r.block);
-    put_or(table, r.next, r.whole);
+    tables::put_or(table, r.at, r.block);
+    tables::put_or(table, r.next, r.whole);
     r.placed
 }
 
@@ -971,7 +961,7 @@ fn follow(
     let mut q = first;
     while 0 < q.left {
         let k = asks(views, places, q.place);
-        let b = blocks::block_or(table, k, Block { start: 0, len: 0 });
+        let b = tables::block_or(table, k, Block { start: 0, len: 0 });
         let t = turn(s, views, bytes, places, x, q, b);
         q = t;
     }
@@ -1003,7 +993,7 @@ pub fn append_value(
     let f = search(s, &views[..], &bytes[..], &table[..], &places[..], x);
     let c = table.len();
     let r = value_with(s, views, bytes, c, nulls, places, x, 1, f);
-    put_or(table, r.at, r.block);
+    tables::put_or(table, r.at, r.block);
     r.answer
 }
 
@@ -1025,6 +1015,6 @@ pub fn append_values(
     let f = search(s, &views[..], &bytes[..], &table[..], &places[..], x);
     let c = table.len();
     let r = value_with(s, views, bytes, c, nulls, places, x, n, f);
-    put_or(table, r.at, r.block);
+    tables::put_or(table, r.at, r.block);
     r.answer
 }

@@ -29,16 +29,6 @@ pub struct Made {
     pub block: Block,
 }
 
-// The record of block k becomes b; past the table's end nothing changes.
-pub fn put_or(table: &mut [Block], k: usize, b: Block)
-    ensures { λ _. ⌜ now (table .exit) ≡ set (now (table .entry)) k b ⌝ }
-{
-    if k < table.len() {
-        table[k] = b;
-        return;
-    }
-}
-
 // 1, or 0 where there is no record.
 fn one_of(count: usize) -> usize
     ensures { λ r. ⌜ r ≡ pick (eqb count 0) 0 1 ⌝ }
@@ -150,6 +140,6 @@ pub fn from_offsets<'a>(
 {
     let n = table.len();
     let made = convert_with(offsets, bytes, nulls, how, newviews, newbytes, n, newnulls);
-    put_or(table, made.at, made.block);
+    tables::put_or(table, made.at, made.block);
     made.outcome
 }

@@ -50,10 +50,10 @@ use Rattle.validity.specs.Check.{whyInvalid}
 use Rattle.blocks.specs.Places.{Counted, Found, Stopped}
 use Rattle.blocks.specs.PlacesLaws.{stopped}
 use Rattle.blocks.proofs.AskLook.{column-val}
-use Rattle.blocks.proofs.count as N
-use Rattle.blocks.proofs.count.Symbol as N-def
-use Rattle.blocks.proofs.count.Symbol.{name as #blocks·count}
-use Rattle.blocks.proofs.count.Met as N-thm
+use Rattle.tables.proofs.count as N
+use Rattle.tables.proofs.count.Symbol as N-def
+use Rattle.tables.proofs.count.Symbol.{name as #tables·count}
+use Rattle.tables.proofs.count.Met as N-thm
 use Rattle.blocks.proofs.places_with as E
 use Rattle.blocks.proofs.places_with.Symbol as E-def
 use Rattle.blocks.proofs.places_with.Symbol.{name as #blocks·places-with}
@@ -204,7 +204,7 @@ module _ {M : Type 1} (𝓤 : URA M) (H : Heap 𝓤) (A : Atoms 𝓤) (W : Given
       move ! (1 ∷ []) $ frame ! $ move ! (1 ∷ 2 ∷ []) $ fjoin ! $ move ! (2 ∷ 0 ∷ []) $ fjoin ! $ move ! (2 ∷ 0 ∷ []) $ fjoin ! $ move ! (2 ∷ 0 ∷ [])
       $ fjoin ! $ frame ! $ done !
 
-  module _ (𝓣 : Tables 𝓤 H) (known₁ : Triple 𝓤 (𝓣 .C #blocks·count) (Count 𝓤 H A mem run)) (known₂ : Triple 𝓤 (𝓣 .C #blocks·places-with)
+  module _ (𝓣 : Tables 𝓤 H) (known₁ : Triple 𝓤 (𝓣 .C #tables·count) (Count 𝓤 H A mem run)) (known₂ : Triple 𝓤 (𝓣 .C #blocks·places-with)
       (PlacesWith 𝓤 H A mem run)) (known₃ : Triple 𝓤 (𝓣 .C #blocks·stop-at) (StopAt 𝓤 H A mem run)) (known₄ : Triple 𝓤 (𝓣 .C #blocks·check-with)
       (CheckWith 𝓤 H A mem run)) where
     walk : ent 𝓤 (onEntry 𝓤 H A F.signature (κ, tt) (q, tt) a at) (WpFn 𝓤 H (𝓣 .C) (𝓣 .Λ) code.function passed Post)
@@ -276,7 +276,7 @@ module _ {M : Type 1} (𝓤 : URA M) (H : Heap 𝓤) (A : Atoms 𝓤) (W : Given
         by ! (exits w v (e (now y) (now t) is (stopped (now x) (now y) (now z) (now t) c n m i counted is f))))))))))))))))))))))))))))
 
 module _ {M : Type 1} (𝓤 : URA M) (H : Heap 𝓤) (A : Atoms 𝓤) (W : Given 𝓤 H A) (mem : Memory → SProp 𝓤) (run : Routine → Fun 𝓤) where
-  walks : (𝓣 : Tables 𝓤 H) → Triple 𝓤 (𝓣 .C #blocks·count) (Count 𝓤 H A mem run) → Triple 𝓤 (𝓣 .C #blocks·places-with) (PlacesWith 𝓤 H A mem run)
+  walks : (𝓣 : Tables 𝓤 H) → Triple 𝓤 (𝓣 .C #tables·count) (Count 𝓤 H A mem run) → Triple 𝓤 (𝓣 .C #blocks·places-with) (PlacesWith 𝓤 H A mem run)
       → Triple 𝓤 (𝓣 .C #blocks·stop-at) (StopAt 𝓤 H A mem run) → Triple 𝓤 (𝓣 .C #blocks·check-with) (CheckWith 𝓤 H A mem run)
       → Walks 𝓤 H A F.ended stayed (WpFn 𝓤 H (𝓣 .C) (𝓣 .Λ) code.function) (F.clauses 𝓤 H A mem run)
   walks 𝓣 known₁ known₂ known₃ known₄ = walked 𝓤 H A F.ended stayed (F.clauses 𝓤 H A mem run) (WpFn 𝓤 H (𝓣 .C) (𝓣 .Λ) code.function)
@@ -295,7 +295,7 @@ module _ {M : Type 1} (𝓤 : URA M) (H : Heap 𝓤) (A : Atoms 𝓤) (W : Given
       (are .0 .0 .1) (are .1 .0 .0 .1) (are .1 .1 .0 .0 .1) (are .1 .1 .1 .0 .0 .1) (are .1 .1 .1 .1 .0) 𝓣 known₁ known₂ known₃ known₄))
 
 meets : {M : Type 1} (𝓤 : URA M) (H : Heap 𝓤) (A : Atoms 𝓤) (W : Given 𝓤 H A) (mem : Memory → SProp 𝓤) (run : Routine → Fun 𝓤) (𝓣 : Tables 𝓤 H)
-    → Triple 𝓤 (𝓣 .C #blocks·count) (Count 𝓤 H A mem run) → Triple 𝓤 (𝓣 .C #blocks·places-with) (PlacesWith 𝓤 H A mem run)
+    → Triple 𝓤 (𝓣 .C #tables·count) (Count 𝓤 H A mem run) → Triple 𝓤 (𝓣 .C #blocks·places-with) (PlacesWith 𝓤 H A mem run)
     → Triple 𝓤 (𝓣 .C #blocks·stop-at) (StopAt 𝓤 H A mem run) → Triple 𝓤 (𝓣 .C #blocks·check-with) (CheckWith 𝓤 H A mem run)
     → Meets 𝓤 H A F.signature (WpFn 𝓤 H (𝓣 .C) (𝓣 .Λ) code.function) (F.spec 𝓤 H A mem run)
 meets 𝓤 H A W mem run 𝓣 known₁ known₂ known₃ known₄ = walk-meets 𝓤 H A F.ended stayed W (
@@ -317,7 +317,7 @@ check-spec 𝓤 H 𝓜 𝓖 𝓡 =
     entered 𝓤 H (tripleOf 𝓤 H (𝓖 .A) F.signature (F.spec 𝓤 H (𝓖 .A) (𝓜 .mem) (𝓡 .run)))
     (tables 𝓤 H 𝓜 𝓡 code.env .C) (tables 𝓤 H 𝓜 𝓡 code.env .Λ) #blocks·check code.function (code.unfolded 𝓤 H 𝓜 𝓡)
     (meets 𝓤 H (𝓖 .A) (givenOf 𝓤 H 𝓜 𝓖) (𝓜 .mem) (𝓡 .run) (tablesOf 𝓤 H 𝓜 (tables 𝓤 H 𝓜 𝓡 code.env))
-    (cited 𝓤 H (Count 𝓤 H (𝓖 .A) (𝓜 .mem) (𝓡 .run)) 𝓜 𝓡 code.env #blocks·count N-def.routine code.calls-blocks·count (N-thm.met 𝓤 H 𝓜 𝓖 𝓡))
+    (cited 𝓤 H (Count 𝓤 H (𝓖 .A) (𝓜 .mem) (𝓡 .run)) 𝓜 𝓡 code.env #tables·count N-def.routine code.calls-tables·count (N-thm.met 𝓤 H 𝓜 𝓖 𝓡))
     (cited 𝓤 H (PlacesWith 𝓤 H (𝓖 .A) (𝓜 .mem) (𝓡 .run)) 𝓜 𝓡 code.env #blocks·places-with E-def.routine code.calls-blocks·places-with (E-thm.met 𝓤 H 𝓜 𝓖 𝓡))
     (cited 𝓤 H (StopAt 𝓤 H (𝓖 .A) (𝓜 .mem) (𝓡 .run)) 𝓜 𝓡 code.env #blocks·stop-at G-def.routine code.calls-blocks·stop-at (G-thm.met 𝓤 H 𝓜 𝓖 𝓡))
     (cited 𝓤 H (CheckWith 𝓤 H (𝓖 .A) (𝓜 .mem) (𝓡 .run)) 𝓜 𝓡 code.env #blocks·check-with P-def.routine code.calls-blocks·check-with (P-thm.met 𝓤 H 𝓜 𝓖 𝓡)))

@@ -50,10 +50,10 @@ use Rattle.blocks.proofs.place_of as G
 use Rattle.blocks.proofs.place_of.Symbol as G-def
 use Rattle.blocks.proofs.place_of.Symbol.{name as #blocks·place-of}
 use Rattle.blocks.proofs.place_of.Met as G-thm
-use Rattle.blocks.proofs.block_or as O
-use Rattle.blocks.proofs.block_or.Symbol as O-def
-use Rattle.blocks.proofs.block_or.Symbol.{name as #blocks·block-or}
-use Rattle.blocks.proofs.block_or.Met as O-thm
+use Rattle.tables.proofs.block_or as O
+use Rattle.tables.proofs.block_or.Symbol as O-def
+use Rattle.tables.proofs.block_or.Symbol.{name as #tables·block-or}
+use Rattle.tables.proofs.block_or.Met as O-thm
 use Rattle.blocks.proofs.judge as N
 use Rattle.blocks.proofs.judge.Symbol as N-def
 use Rattle.blocks.proofs.judge.Symbol.{name as #blocks·judge}
@@ -194,7 +194,7 @@ module _ {M : Type 1} (𝓤 : URA M) (H : Heap 𝓤) (A : Atoms 𝓤) (W : Given
       move ! (1 ∷ []) $ frame ! $ move ! (1 ∷ 2 ∷ []) $ fjoin ! $ move ! (2 ∷ 0 ∷ []) $ fjoin ! $ move ! (2 ∷ 0 ∷ []) $ fjoin ! $ frame ! $ done !
 
   module _ (C : Calls 𝓤 H) (Λ : Loops 𝓤 H) (fm : FmC 𝓤 H (W .laws) C) (known₁ : Triple 𝓤 (C #blocks·place-of) (PlaceOf 𝓤 H A mem run))
-      (known₂ : Triple 𝓤 (C #blocks·block-or) (BlockOr 𝓤 H A mem run)) (known₃ : Triple 𝓤 (C #blocks·judge) (Judge 𝓤 H A mem run)) where
+      (known₂ : Triple 𝓤 (C #tables·block-or) (BlockOr 𝓤 H A mem run)) (known₃ : Triple 𝓤 (C #blocks·judge) (Judge 𝓤 H A mem run)) where
     walk : ent 𝓤 (onEntry 𝓤 H A F.signature (κ, tt) (q, tt) a at) (WpFn 𝓤 H C Λ code.function passed Post)
     walk =
         qed W ((‵ (flft κ q) ⊛ ‵ ftrue) ∷ ‵ (owns (ShrSlice (named 0) κ u8 ∷ ShrSlice (named 0) κ u8 ∷ ShrSlice (named 0) κ T.the-row ∷ K.the-row
@@ -256,7 +256,7 @@ module _ {M : Type 1} (𝓤 : URA M) (H : Heap 𝓤) (A : Atoms 𝓤) (W : Given
 
 module _ {M : Type 1} (𝓤 : URA M) (H : Heap 𝓤) (A : Atoms 𝓤) (W : Given 𝓤 H A) (mem : Memory → SProp 𝓤) (run : Routine → Fun 𝓤) where
   walks : (C : Calls 𝓤 H) (Λ : Loops 𝓤 H) → FmC 𝓤 H (W .laws) C → Triple 𝓤 (C #blocks·place-of) (PlaceOf 𝓤 H A mem run)
-      → Triple 𝓤 (C #blocks·block-or) (BlockOr 𝓤 H A mem run) → Triple 𝓤 (C #blocks·judge) (Judge 𝓤 H A mem run)
+      → Triple 𝓤 (C #tables·block-or) (BlockOr 𝓤 H A mem run) → Triple 𝓤 (C #blocks·judge) (Judge 𝓤 H A mem run)
       → Walks 𝓤 H A F.ended stayed (WpFn 𝓤 H C Λ code.function) (F.clauses 𝓤 H A mem run)
   walks C Λ fm known₁ known₂ known₃ = walked 𝓤 H A F.ended stayed (F.clauses 𝓤 H A mem run) (WpFn 𝓤 H C Λ code.function)
       (λ κs. (slice-vals, (slice-vals, (slice-vals, (LL.vals K.the-type K′.the-laws, (uint-vals w64, (uint-vals w64, tt)))))))
@@ -275,7 +275,7 @@ module _ {M : Type 1} (𝓤 : URA M) (H : Heap 𝓤) (A : Atoms 𝓤) (W : Given
       (are .0 .0 .1) (are .1 .0 .0 .1) (are .1 .1 .0 .0 .1) (are .1 .1 .1 .0) (are .1 .1 .1 .1 .0 .1) (are .1 .1 .1 .1 .1 .0 .1) C Λ fm known₁ known₂ known₃))
 
 meets : {M : Type 1} (𝓤 : URA M) (H : Heap 𝓤) (A : Atoms 𝓤) (W : Given 𝓤 H A) (mem : Memory → SProp 𝓤) (run : Routine → Fun 𝓤) (𝓣 : Tables 𝓤 H)
-    → Triple 𝓤 (𝓣 .C #blocks·place-of) (PlaceOf 𝓤 H A mem run) → Triple 𝓤 (𝓣 .C #blocks·block-or) (BlockOr 𝓤 H A mem run)
+    → Triple 𝓤 (𝓣 .C #blocks·place-of) (PlaceOf 𝓤 H A mem run) → Triple 𝓤 (𝓣 .C #tables·block-or) (BlockOr 𝓤 H A mem run)
     → Triple 𝓤 (𝓣 .C #blocks·judge) (Judge 𝓤 H A mem run)
     → Meets 𝓤 H A F.signature (WpFn 𝓤 H (𝓣 .C) (𝓣 .Λ) code.function) (F.spec 𝓤 H A mem run)
 meets 𝓤 H A W mem run 𝓣 known₁ known₂ known₃ = walk-meets 𝓤 H A F.ended stayed W (
@@ -304,5 +304,5 @@ holds-spec 𝓤 H 𝓜 𝓖 𝓡 =
     (tables 𝓤 H 𝓜 𝓡 code.env .C) (tables 𝓤 H 𝓜 𝓡 code.env .Λ) #blocks·holds code.function (code.unfolded 𝓤 H 𝓜 𝓡)
     (meets 𝓤 H (𝓖 .A) (givenOf 𝓤 H 𝓜 𝓖) (𝓜 .mem) (𝓡 .run) (tablesOf 𝓤 H 𝓜 (tables 𝓤 H 𝓜 𝓡 code.env))
     (cited 𝓤 H (PlaceOf 𝓤 H (𝓖 .A) (𝓜 .mem) (𝓡 .run)) 𝓜 𝓡 code.env #blocks·place-of G-def.routine code.calls-blocks·place-of (G-thm.met 𝓤 H 𝓜 𝓖 𝓡))
-    (cited 𝓤 H (BlockOr 𝓤 H (𝓖 .A) (𝓜 .mem) (𝓡 .run)) 𝓜 𝓡 code.env #blocks·block-or O-def.routine code.calls-blocks·block-or (O-thm.met 𝓤 H 𝓜 𝓖 𝓡))
+    (cited 𝓤 H (BlockOr 𝓤 H (𝓖 .A) (𝓜 .mem) (𝓡 .run)) 𝓜 𝓡 code.env #tables·block-or O-def.routine code.calls-tables·block-or (O-thm.met 𝓤 H 𝓜 𝓖 𝓡))
     (cited 𝓤 H (Judge 𝓤 H (𝓖 .A) (𝓜 .mem) (𝓡 .run)) 𝓜 𝓡 code.env #blocks·judge N-def.routine code.calls-blocks·judge (N-thm.met 𝓤 H 𝓜 𝓖 𝓡)))

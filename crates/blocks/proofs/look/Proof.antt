@@ -53,14 +53,14 @@ use Rattle.blocks.proofs.block_of as G
 use Rattle.blocks.proofs.block_of.Symbol as G-def
 use Rattle.blocks.proofs.block_of.Symbol.{name as #blocks·block-of}
 use Rattle.blocks.proofs.block_of.Met as G-thm
-use Rattle.blocks.proofs.block_or as O
-use Rattle.blocks.proofs.block_or.Symbol as O-def
-use Rattle.blocks.proofs.block_or.Symbol.{name as #blocks·block-or}
-use Rattle.blocks.proofs.block_or.Met as O-thm
-use Rattle.blocks.proofs.count as N
-use Rattle.blocks.proofs.count.Symbol as N-def
-use Rattle.blocks.proofs.count.Symbol.{name as #blocks·count}
-use Rattle.blocks.proofs.count.Met as N-thm
+use Rattle.tables.proofs.block_or as O
+use Rattle.tables.proofs.block_or.Symbol as O-def
+use Rattle.tables.proofs.block_or.Symbol.{name as #tables·block-or}
+use Rattle.tables.proofs.block_or.Met as O-thm
+use Rattle.tables.proofs.count as N
+use Rattle.tables.proofs.count.Symbol as N-def
+use Rattle.tables.proofs.count.Symbol.{name as #tables·count}
+use Rattle.tables.proofs.count.Met as N-thm
 use Rattle.blocks.proofs.look.Key.{name as #blocks·look}
 use Rattle.blocks.proofs.look as F
 use Rattle.blocks.proofs.look.Statement as stated
@@ -194,7 +194,7 @@ module _ {M : Type 1} (𝓤 : URA M) (H : Heap 𝓤) (A : Atoms 𝓤) (W : Given
       frame ! $ fjoin ! $ move ! (1 ∷ 0 ∷ []) $ fjoin ! $ frame ! $ owned ! S.the-row (Is S.the-row) (LL.makes S.the-type S′.the-plain 𝓤 H A) s _ g $ done !
 
   module _ (C : Calls 𝓤 H) (Λ : Loops 𝓤 H) (fm : FmC 𝓤 H (W .laws) C) (known₁ : Triple 𝓤 (C #blocks·block-of) (BlockOf 𝓤 H A mem run))
-      (known₂ : Triple 𝓤 (C #blocks·block-or) (BlockOr 𝓤 H A mem run)) (known₃ : Triple 𝓤 (C #blocks·count) (Count 𝓤 H A mem run)) where
+      (known₂ : Triple 𝓤 (C #tables·block-or) (BlockOr 𝓤 H A mem run)) (known₃ : Triple 𝓤 (C #tables·count) (Count 𝓤 H A mem run)) where
     walk : ent 𝓤 (onEntry 𝓤 H A F.signature (κ, tt) (q, tt) a at) (WpFn 𝓤 H C Λ code.function (sliceVal (x .ptr) (length (now x)) ∷ sliceVal (t .ptr)
         (length (now t)) ∷ column-val c ∷ vint w64 row ∷ []) Post)
     walk =
@@ -254,7 +254,7 @@ module _ {M : Type 1} (𝓤 : URA M) (H : Heap 𝓤) (A : Atoms 𝓤) (W : Given
 
 module _ {M : Type 1} (𝓤 : URA M) (H : Heap 𝓤) (A : Atoms 𝓤) (W : Given 𝓤 H A) (mem : Memory → SProp 𝓤) (run : Routine → Fun 𝓤) where
   walks : (C : Calls 𝓤 H) (Λ : Loops 𝓤 H) → FmC 𝓤 H (W .laws) C → Triple 𝓤 (C #blocks·block-of) (BlockOf 𝓤 H A mem run)
-      → Triple 𝓤 (C #blocks·block-or) (BlockOr 𝓤 H A mem run) → Triple 𝓤 (C #blocks·count) (Count 𝓤 H A mem run)
+      → Triple 𝓤 (C #tables·block-or) (BlockOr 𝓤 H A mem run) → Triple 𝓤 (C #tables·count) (Count 𝓤 H A mem run)
       → Walks 𝓤 H A F.ended stayed (WpFn 𝓤 H C Λ code.function) (F.clauses 𝓤 H A mem run)
   walks C Λ fm known₁ known₂ known₃ = walked 𝓤 H A F.ended stayed (F.clauses 𝓤 H A mem run) (WpFn 𝓤 H C Λ code.function)
       (λ κs. (slice-vals, (slice-vals, (LL.vals K.the-type K′.the-laws, (uint-vals w64, tt)))))
@@ -263,8 +263,8 @@ module _ {M : Type 1} (𝓤 : URA M) (H : Heap 𝓤) (A : Atoms 𝓤) (W : Given
       (are .0 .0 .1) (are .1 .0 .0 .1) (are .1 .1 .0) (are .1 .1 .1 .0 .1) C Λ fm known₁ known₂ known₃))
 
 meets : {M : Type 1} (𝓤 : URA M) (H : Heap 𝓤) (A : Atoms 𝓤) (W : Given 𝓤 H A) (mem : Memory → SProp 𝓤) (run : Routine → Fun 𝓤) (𝓣 : Tables 𝓤 H)
-    → Triple 𝓤 (𝓣 .C #blocks·block-of) (BlockOf 𝓤 H A mem run) → Triple 𝓤 (𝓣 .C #blocks·block-or) (BlockOr 𝓤 H A mem run)
-    → Triple 𝓤 (𝓣 .C #blocks·count) (Count 𝓤 H A mem run)
+    → Triple 𝓤 (𝓣 .C #blocks·block-of) (BlockOf 𝓤 H A mem run) → Triple 𝓤 (𝓣 .C #tables·block-or) (BlockOr 𝓤 H A mem run)
+    → Triple 𝓤 (𝓣 .C #tables·count) (Count 𝓤 H A mem run)
     → Meets 𝓤 H A F.signature (WpFn 𝓤 H (𝓣 .C) (𝓣 .Λ) code.function) (F.spec 𝓤 H A mem run)
 meets 𝓤 H A W mem run 𝓣 known₁ known₂ known₃ = walk-meets 𝓤 H A F.ended stayed W (
   goes-none-slice 𝓤 H A W 1 (0 ∷ []) tt (plain (λ _. u8)) yes,
@@ -286,5 +286,5 @@ look-spec 𝓤 H 𝓜 𝓖 𝓡 =
     (tables 𝓤 H 𝓜 𝓡 code.env .C) (tables 𝓤 H 𝓜 𝓡 code.env .Λ) #blocks·look code.function (code.unfolded 𝓤 H 𝓜 𝓡)
     (meets 𝓤 H (𝓖 .A) (givenOf 𝓤 H 𝓜 𝓖) (𝓜 .mem) (𝓡 .run) (tablesOf 𝓤 H 𝓜 (tables 𝓤 H 𝓜 𝓡 code.env))
     (cited 𝓤 H (BlockOf 𝓤 H (𝓖 .A) (𝓜 .mem) (𝓡 .run)) 𝓜 𝓡 code.env #blocks·block-of G-def.routine code.calls-blocks·block-of (G-thm.met 𝓤 H 𝓜 𝓖 𝓡))
-    (cited 𝓤 H (BlockOr 𝓤 H (𝓖 .A) (𝓜 .mem) (𝓡 .run)) 𝓜 𝓡 code.env #blocks·block-or O-def.routine code.calls-blocks·block-or (O-thm.met 𝓤 H 𝓜 𝓖 𝓡))
-    (cited 𝓤 H (Count 𝓤 H (𝓖 .A) (𝓜 .mem) (𝓡 .run)) 𝓜 𝓡 code.env #blocks·count N-def.routine code.calls-blocks·count (N-thm.met 𝓤 H 𝓜 𝓖 𝓡)))
+    (cited 𝓤 H (BlockOr 𝓤 H (𝓖 .A) (𝓜 .mem) (𝓡 .run)) 𝓜 𝓡 code.env #tables·block-or O-def.routine code.calls-tables·block-or (O-thm.met 𝓤 H 𝓜 𝓖 𝓡))
+    (cited 𝓤 H (Count 𝓤 H (𝓖 .A) (𝓜 .mem) (𝓡 .run)) 𝓜 𝓡 code.env #tables·count N-def.routine code.calls-tables·count (N-thm.met 𝓤 H 𝓜 𝓖 𝓡)))

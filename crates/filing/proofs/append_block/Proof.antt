@@ -60,10 +60,10 @@ use Rattle.filing.proofs.block_with as Cblockwithm
 use Rattle.filing.proofs.block_with.Symbol as Cblockwithd
 use Rattle.filing.proofs.block_with.Symbol.{name as #Cblockwith}
 use Rattle.filing.proofs.block_with.Met as Cblockwitht
-use Rattle.filing.proofs.put_or as Cputorm
-use Rattle.filing.proofs.put_or.Symbol as Cputord
-use Rattle.filing.proofs.put_or.Symbol.{name as #Cputor}
-use Rattle.filing.proofs.put_or.Met as Cputort
+use Rattle.tables.proofs.put_or as Cputorm
+use Rattle.tables.proofs.put_or.Symbol as Cputord
+use Rattle.tables.proofs.put_or.Symbol.{name as #Cputor}
+use Rattle.tables.proofs.put_or.Met as Cputort
 use Rattle.filing.proofs.append_block.Key.{name as #own}
 use Rattle.filing.proofs.append_block as F
 use Rattle.filing.proofs.append_block.Statement as stated
@@ -435,4 +435,4 @@ append-block-spec 𝓤 H 𝓜 𝓖 𝓡 =
     (tables 𝓤 H 𝓜 𝓡 code.env .C) (tables 𝓤 H 𝓜 𝓡 code.env .Λ) #own code.function (code.unfolded 𝓤 H 𝓜 𝓡)
     (meets 𝓤 H (𝓖 .A) (givenOf 𝓤 H 𝓜 𝓖) (𝓜 .mem) (𝓡 .run) (tablesOf 𝓤 H 𝓜 (tables 𝓤 H 𝓜 𝓡 code.env))
     (cited 𝓤 H (Cblockwith 𝓤 H (𝓖 .A) (𝓜 .mem) (𝓡 .run)) 𝓜 𝓡 code.env #Cblockwith Cblockwithd.routine code.calls-filing·block-with (Cblockwitht.met 𝓤 H 𝓜 𝓖 𝓡))
-    (cited 𝓤 H (Cputor 𝓤 H (𝓖 .A) (𝓜 .mem) (𝓡 .run)) 𝓜 𝓡 code.env #Cputor Cputord.routine code.calls-filing·put-or (Cputort.met 𝓤 H 𝓜 𝓖 𝓡)))
+    (cited 𝓤 H (Cputor 𝓤 H (𝓖 .A) (𝓜 .mem) (𝓡 .run)) 𝓜 𝓡 code.env #Cputor Cputord.routine code.calls-tables·put-or (Cputort.met 𝓤 H 𝓜 𝓖 𝓡)))

@@ -68,10 +68,10 @@ use Rattle.filing.proofs.value_with as Cvaluewithm
 use Rattle.filing.proofs.value_with.Symbol as Cvaluewithd
 use Rattle.filing.proofs.value_with.Symbol.{name as #Cvaluewith}
 use Rattle.filing.proofs.value_with.Met as Cvaluewitht
-use Rattle.filing.proofs.put_or as Cputorm
-use Rattle.filing.proofs.put_or.Symbol as Cputord
-use Rattle.filing.proofs.put_or.Symbol.{name as #Cputor}
-use Rattle.filing.proofs.put_or.Met as Cputort
+use Rattle.tables.proofs.put_or as Cputorm
+use Rattle.tables.proofs.put_or.Symbol as Cputord
+use Rattle.tables.proofs.put_or.Symbol.{name as #Cputor}
+use Rattle.tables.proofs.put_or.Met as Cputort
 use Rattle.filing.proofs.append_values.Key.{name as #own}
 use Rattle.filing.proofs.append_values as F
 use Rattle.filing.proofs.append_values.Statement as stated
@@ -543,4 +543,4 @@ append-values-spec 𝓤 H 𝓜 𝓖 𝓡 =
     (meets 𝓤 H (𝓖 .A) (givenOf 𝓤 H 𝓜 𝓖) (𝓜 .mem) (𝓡 .run) (tablesOf 𝓤 H 𝓜 (tables 𝓤 H 𝓜 𝓡 code.env))
     (cited 𝓤 H (Csearch 𝓤 H (𝓖 .A) (𝓜 .mem) (𝓡 .run)) 𝓜 𝓡 code.env #Csearch Csearchd.routine code.calls-filing·search (Csearcht.met 𝓤 H 𝓜 𝓖 𝓡))
     (cited 𝓤 H (Cvaluewith 𝓤 H (𝓖 .A) (𝓜 .mem) (𝓡 .run)) 𝓜 𝓡 code.env #Cvaluewith Cvaluewithd.routine code.calls-filing·value-with (Cvaluewitht.met 𝓤 H 𝓜 𝓖 𝓡))
-    (cited 𝓤 H (Cputor 𝓤 H (𝓖 .A) (𝓜 .mem) (𝓡 .run)) 𝓜 𝓡 code.env #Cputor Cputord.routine code.calls-filing·put-or (Cputort.met 𝓤 H 𝓜 𝓖 𝓡)))
+    (cited 𝓤 H (Cputor 𝓤 H (𝓖 .A) (𝓜 .mem) (𝓡 .run)) 𝓜 𝓡 code.env #Cputor Cputord.routine code.calls-tables·put-or (Cputort.met 𝓤 H 𝓜 𝓖 𝓡)))

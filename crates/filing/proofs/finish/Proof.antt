@@ -54,10 +54,10 @@ use Rattle.filing.proofs.finish_with as Cfinishwithm
 use Rattle.filing.proofs.finish_with.Symbol as Cfinishwithd
 use Rattle.filing.proofs.finish_with.Symbol.{name as #Cfinishwith}
 use Rattle.filing.proofs.finish_with.Met as Cfinishwitht
-use Rattle.filing.proofs.put_or as Cputorm
-use Rattle.filing.proofs.put_or.Symbol as Cputord
-use Rattle.filing.proofs.put_or.Symbol.{name as #Cputor}
-use Rattle.filing.proofs.put_or.Met as Cputort
+use Rattle.tables.proofs.put_or as Cputorm
+use Rattle.tables.proofs.put_or.Symbol as Cputord
+use Rattle.tables.proofs.put_or.Symbol.{name as #Cputor}
+use Rattle.tables.proofs.put_or.Met as Cputort
 use Rattle.filing.proofs.finish.Key.{name as #own}
 use Rattle.filing.proofs.finish as F
 use Rattle.filing.proofs.finish.Statement as stated
@@ -315,4 +315,4 @@ finish-spec 𝓤 H 𝓜 𝓖 𝓡 =
     (meets 𝓤 H (𝓖 .A) (givenOf 𝓤 H 𝓜 𝓖) (𝓜 .mem) (𝓡 .run) (tablesOf 𝓤 H 𝓜 (tables 𝓤 H 𝓜 𝓡 code.env))
     (cited 𝓤 H (Cfinishwith 𝓤 H (𝓖 .A) (𝓜 .mem) (𝓡 .run)) 𝓜 𝓡 code.env #Cfinishwith Cfinishwithd.routine code.calls-filing·finish-with
     (Cfinishwitht.met 𝓤 H 𝓜 𝓖 𝓡))
-    (cited 𝓤 H (Cputor 𝓤 H (𝓖 .A) (𝓜 .mem) (𝓡 .run)) 𝓜 𝓡 code.env #Cputor Cputord.routine code.calls-filing·put-or (Cputort.met 𝓤 H 𝓜 𝓖 𝓡)))
+    (cited 𝓤 H (Cputor 𝓤 H (𝓖 .A) (𝓜 .mem) (𝓡 .run)) 𝓜 𝓡 code.env #Cputor Cputord.routine code.calls-tables·put-or (Cputort.met 𝓤 H 𝓜 𝓖 𝓡)))

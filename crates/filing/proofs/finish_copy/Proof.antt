@@ -54,10 +54,10 @@ use Rattle.filing.proofs.copy_with as Ccopywithm
 use Rattle.filing.proofs.copy_with.Symbol as Ccopywithd
 use Rattle.filing.proofs.copy_with.Symbol.{name as #Ccopywith}
 use Rattle.filing.proofs.copy_with.Met as Ccopywitht
-use Rattle.filing.proofs.put_or as Cputorm
-use Rattle.filing.proofs.put_or.Symbol as Cputord
-use Rattle.filing.proofs.put_or.Symbol.{name as #Cputor}
-use Rattle.filing.proofs.put_or.Met as Cputort
+use Rattle.tables.proofs.put_or as Cputorm
+use Rattle.tables.proofs.put_or.Symbol as Cputord
+use Rattle.tables.proofs.put_or.Symbol.{name as #Cputor}
+use Rattle.tables.proofs.put_or.Met as Cputort
 use Rattle.filing.proofs.finish_copy.Key.{name as #own}
 use Rattle.filing.proofs.finish_copy as F
 use Rattle.filing.proofs.finish_copy.Statement as stated
@@ -318,4 +318,4 @@ finish-copy-spec 𝓤 H 𝓜 𝓖 𝓡 =
     (tables 𝓤 H 𝓜 𝓡 code.env .C) (tables 𝓤 H 𝓜 𝓡 code.env .Λ) #own code.function (code.unfolded 𝓤 H 𝓜 𝓡)
     (meets 𝓤 H (𝓖 .A) (givenOf 𝓤 H 𝓜 𝓖) (𝓜 .mem) (𝓡 .run) (tablesOf 𝓤 H 𝓜 (tables 𝓤 H 𝓜 𝓡 code.env))
     (cited 𝓤 H (Ccopywith 𝓤 H (𝓖 .A) (𝓜 .mem) (𝓡 .run)) 𝓜 𝓡 code.env #Ccopywith Ccopywithd.routine code.calls-filing·copy-with (Ccopywitht.met 𝓤 H 𝓜 𝓖 𝓡))
-    (cited 𝓤 H (Cputor 𝓤 H (𝓖 .A) (𝓜 .mem) (𝓡 .run)) 𝓜 𝓡 code.env #Cputor Cputord.routine code.calls-filing·put-or (Cputort.met 𝓤 H 𝓜 𝓖 𝓡)))
+    (cited 𝓤 H (Cputor 𝓤 H (𝓖 .A) (𝓜 .mem) (𝓡 .run)) 𝓜 𝓡 code.env #Cputor Cputord.routine code.calls-tables·put-or (Cputort.met 𝓤 H 𝓜 𝓖 𝓡)))

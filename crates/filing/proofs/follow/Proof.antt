@@ -69,10 +69,10 @@ use Rattle.filing.proofs.asks as Casksm
 use Rattle.filing.proofs.asks.Symbol as Casksd
 use Rattle.filing.proofs.asks.Symbol.{name as #Casks}
 use Rattle.filing.proofs.asks.Met as Caskst
-use Rattle.blocks.proofs.block_or as Cblockorm
-use Rattle.blocks.proofs.block_or.Symbol as Cblockord
-use Rattle.blocks.proofs.block_or.Symbol.{name as #Cblockor}
-use Rattle.blocks.proofs.block_or.Met as Cblockort
+use Rattle.tables.proofs.block_or as Cblockorm
+use Rattle.tables.proofs.block_or.Symbol as Cblockord
+use Rattle.tables.proofs.block_or.Symbol.{name as #Cblockor}
+use Rattle.tables.proofs.block_or.Met as Cblockort
 use Rattle.filing.proofs.turn as Cturnm
 use Rattle.filing.proofs.turn.Symbol as Cturnd
 use Rattle.filing.proofs.turn.Symbol.{name as #Cturn}
@@ -516,5 +516,5 @@ follow-spec 𝓤 H 𝓜 𝓖 𝓡 =
     (tables 𝓤 H 𝓜 𝓡 code.env .C) (tables 𝓤 H 𝓜 𝓡 code.env .Λ) #own code.function (code.unfolded 𝓤 H 𝓜 𝓡)
     (meets 𝓤 H (𝓖 .A) (givenOf 𝓤 H 𝓜 𝓖) (𝓜 .mem) (𝓡 .run) (tablesOf 𝓤 H 𝓜 (tables 𝓤 H 𝓜 𝓡 code.env))
     (cited 𝓤 H (Casks 𝓤 H (𝓖 .A) (𝓜 .mem) (𝓡 .run)) 𝓜 𝓡 code.env #Casks Casksd.routine code.calls-filing·asks (Caskst.met 𝓤 H 𝓜 𝓖 𝓡))
-    (cited 𝓤 H (Cblockor 𝓤 H (𝓖 .A) (𝓜 .mem) (𝓡 .run)) 𝓜 𝓡 code.env #Cblockor Cblockord.routine code.calls-blocks·block-or (Cblockort.met 𝓤 H 𝓜 𝓖 𝓡))
+    (cited 𝓤 H (Cblockor 𝓤 H (𝓖 .A) (𝓜 .mem) (𝓡 .run)) 𝓜 𝓡 code.env #Cblockor Cblockord.routine code.calls-tables·block-or (Cblockort.met 𝓤 H 𝓜 𝓖 𝓡))
     (cited 𝓤 H (Cturn 𝓤 H (𝓖 .A) (𝓜 .mem) (𝓡 .run)) 𝓜 𝓡 code.env #Cturn Cturnd.routine code.calls-filing·turn (Cturnt.met 𝓤 H 𝓜 𝓖 𝓡)))

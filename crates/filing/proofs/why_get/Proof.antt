@@ -57,10 +57,10 @@ use Rattle.filing.proofs.named as Cnamedm
 use Rattle.filing.proofs.named.Symbol as Cnamedd
 use Rattle.filing.proofs.named.Symbol.{name as #Cnamed}
 use Rattle.filing.proofs.named.Met as Cnamedt
-use Rattle.blocks.proofs.block_or as Cblockorm
-use Rattle.blocks.proofs.block_or.Symbol as Cblockord
-use Rattle.blocks.proofs.block_or.Symbol.{name as #Cblockor}
-use Rattle.blocks.proofs.block_or.Met as Cblockort
+use Rattle.tables.proofs.block_or as Cblockorm
+use Rattle.tables.proofs.block_or.Symbol as Cblockord
+use Rattle.tables.proofs.block_or.Symbol.{name as #Cblockor}
+use Rattle.tables.proofs.block_or.Met as Cblockort
 use Rattle.filing.proofs.why_with as Cwhywithm
 use Rattle.filing.proofs.why_with.Symbol as Cwhywithd
 use Rattle.filing.proofs.why_with.Symbol.{name as #Cwhywith}
@@ -364,5 +364,5 @@ why-get-spec 𝓤 H 𝓜 𝓖 𝓡 =
     (tables 𝓤 H 𝓜 𝓡 code.env .C) (tables 𝓤 H 𝓜 𝓡 code.env .Λ) #own code.function (code.unfolded 𝓤 H 𝓜 𝓡)
     (meets 𝓤 H (𝓖 .A) (givenOf 𝓤 H 𝓜 𝓖) (𝓜 .mem) (𝓡 .run) (tablesOf 𝓤 H 𝓜 (tables 𝓤 H 𝓜 𝓡 code.env))
     (cited 𝓤 H (Cnamed 𝓤 H (𝓖 .A) (𝓜 .mem) (𝓡 .run)) 𝓜 𝓡 code.env #Cnamed Cnamedd.routine code.calls-filing·named (Cnamedt.met 𝓤 H 𝓜 𝓖 𝓡))
-    (cited 𝓤 H (Cblockor 𝓤 H (𝓖 .A) (𝓜 .mem) (𝓡 .run)) 𝓜 𝓡 code.env #Cblockor Cblockord.routine code.calls-blocks·block-or (Cblockort.met 𝓤 H 𝓜 𝓖 𝓡))
+    (cited 𝓤 H (Cblockor 𝓤 H (𝓖 .A) (𝓜 .mem) (𝓡 .run)) 𝓜 𝓡 code.env #Cblockor Cblockord.routine code.calls-tables·block-or (Cblockort.met 𝓤 H 𝓜 𝓖 𝓡))
     (cited 𝓤 H (Cwhywith 𝓤 H (𝓖 .A) (𝓜 .mem) (𝓡 .run)) 𝓜 𝓡 code.env #Cwhywith Cwhywithd.routine code.calls-filing·why-with (Cwhywitht.met 𝓤 H 𝓜 𝓖 𝓡)))

@@ -54,10 +54,10 @@ use Rattle.output_blocks.proofs.convert_with as Cconvertwithm
 use Rattle.output_blocks.proofs.convert_with.Symbol as Cconvertwithd
 use Rattle.output_blocks.proofs.convert_with.Symbol.{name as #Cconvertwith}
 use Rattle.output_blocks.proofs.convert_with.Met as Cconvertwitht
-use Rattle.output_blocks.proofs.put_or as Cputorm
-use Rattle.output_blocks.proofs.put_or.Symbol as Cputord
-use Rattle.output_blocks.proofs.put_or.Symbol.{name as #Cputor}
-use Rattle.output_blocks.proofs.put_or.Met as Cputort
+use Rattle.tables.proofs.put_or as Cputorm
+use Rattle.tables.proofs.put_or.Symbol as Cputord
+use Rattle.tables.proofs.put_or.Symbol.{name as #Cputor}
+use Rattle.tables.proofs.put_or.Met as Cputort
 use Rattle.output_blocks.proofs.from_offsets.Key.{name as #own}
 use Rattle.output_blocks.proofs.from_offsets as F
 use Rattle.output_blocks.proofs.from_offsets.Statement as stated
@@ -386,4 +386,4 @@ from-offsets-spec 𝓤 H 𝓜 𝓖 𝓡 =
     (meets 𝓤 H (𝓖 .A) (givenOf 𝓤 H 𝓜 𝓖) (𝓜 .mem) (𝓡 .run) (tablesOf 𝓤 H 𝓜 (tables 𝓤 H 𝓜 𝓡 code.env))
     (cited 𝓤 H (Cconvertwith 𝓤 H (𝓖 .A) (𝓜 .mem) (𝓡 .run)) 𝓜 𝓡 code.env #Cconvertwith Cconvertwithd.routine code.calls-output-blocks·convert-with
     (Cconvertwitht.met 𝓤 H 𝓜 𝓖 𝓡))
-    (cited 𝓤 H (Cputor 𝓤 H (𝓖 .A) (𝓜 .mem) (𝓡 .run)) 𝓜 𝓡 code.env #Cputor Cputord.routine code.calls-output-blocks·put-or (Cputort.met 𝓤 H 𝓜 𝓖 𝓡)))
+    (cited 𝓤 H (Cputor 𝓤 H (𝓖 .A) (𝓜 .mem) (𝓡 .run)) 𝓜 𝓡 code.env #Cputor Cputord.routine code.calls-tables·put-or (Cputort.met 𝓤 H 𝓜 𝓖 𝓡)))

@@ -1,4 +1,4 @@
--- `blocks::count` meets its contract: a walk of its MIR, by hand. The count is the second field of the slice reference. Assumes nothing.
+-- `tables::count` meets its contract: a walk of its MIR, by hand. The count is the second field of the slice reference. Assumes nothing.
 use mathlib.Core.Path.{refl}
 use Prim.Native.Nat.{ℕ}
 use mathlib.Core.List.{[], _∷_, List}
@@ -33,10 +33,10 @@ use denote.Triple.Walked.{says, Stays, stay-none-slice, walkOf, goes-none-slice,
 use denote.Exit.{yes}
 use Rattle.column.specs.declared.Block.{Block}
 use Rattle.column.proofs.Block as T
-use Rattle.blocks.proofs.count.Key.{name as #blocks·count}
-use Rattle.blocks.proofs.count as F
-use Rattle.blocks.proofs.count.Statement as stated
-use Rattle.blocks.proofs.count.Code as code
+use Rattle.tables.proofs.count.Key.{name as #tables·count}
+use Rattle.tables.proofs.count as F
+use Rattle.tables.proofs.count.Statement as stated
+use Rattle.tables.proofs.count.Code as code
 
 abbrev stayed : Stays (F.ended .signature .params) (F.ended .kept)
 stayed = (stay-none-slice (0 ∷ []) tt (plain (λ _. T.the-row)) yes, tt)
@@ -88,5 +88,5 @@ pub count-spec : {M : Type 1} → stated.statement M
 unfolding code.routine tablesOf
 count-spec 𝓤 H 𝓜 𝓖 𝓡 =
     entered 𝓤 H (tripleOf 𝓤 H (𝓖 .A) F.signature (F.spec 𝓤 H (𝓖 .A) (𝓜 .mem) (𝓡 .run)))
-    (tables 𝓤 H 𝓜 𝓡 code.env .C) (tables 𝓤 H 𝓜 𝓡 code.env .Λ) #blocks·count code.function (code.unfolded 𝓤 H 𝓜 𝓡)
+    (tables 𝓤 H 𝓜 𝓡 code.env .C) (tables 𝓤 H 𝓜 𝓡 code.env .Λ) #tables·count code.function (code.unfolded 𝓤 H 𝓜 𝓡)
     (meets 𝓤 H (𝓖 .A) (givenOf 𝓤 H 𝓜 𝓖) (𝓜 .mem) (𝓡 .run) (tablesOf 𝓤 H 𝓜 (tables 𝓤 H 𝓜 𝓡 code.env)))

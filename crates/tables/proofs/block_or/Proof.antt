@@ -1,4 +1,4 @@
--- `blocks::block_or` meets its contract: a walk of its MIR, by hand. Two ways: where k is in the table, as `block_at`; else the other block is
+-- `tables::block_or` meets its contract: a walk of its MIR, by hand. Two ways: where k is in the table, as `block_at`; else the other block is
 -- returned. Assumes nothing.
 use mathlib.Core.Path.{refl, _≡_, sym}
 use Prim.Native.Nat.{ℕ, _*_, _<_, _^_}
@@ -41,11 +41,11 @@ use denote.Struct.Laws as LL
 use Rattle.column.specs.declared.Block.{Block}
 use Rattle.column.proofs.Block as T
 use Rattle.column.proofs.Block.Laws as T′
-use Rattle.blocks.proofs.block_or.Key.{name as #blocks·block-or}
-use Rattle.blocks.proofs.block_or as F
-use Rattle.blocks.proofs.block_or.Statement as stated
-use Rattle.blocks.proofs.block_or.Code as code
-use Rattle.blocks.proofs.block_or.Code.Mir as Mir
+use Rattle.tables.proofs.block_or.Key.{name as #tables·block-or}
+use Rattle.tables.proofs.block_or as F
+use Rattle.tables.proofs.block_or.Statement as stated
+use Rattle.tables.proofs.block_or.Code as code
+use Rattle.tables.proofs.block_or.Code.Mir as Mir
 
 abbrev stayed : Stays (F.ended .signature .params) (F.ended .kept)
 stayed = (stay-none-slice (0 ∷ []) tt (plain (λ _. T.the-row)) yes, (stay-none (λ _. usize) yes, (stay-none (λ _. T.the-row) yes, tt)))
@@ -152,5 +152,5 @@ pub block-or-spec : {M : Type 1} → stated.statement M
 unfolding code.routine tablesOf
 block-or-spec 𝓤 H 𝓜 𝓖 𝓡 =
     entered 𝓤 H (tripleOf 𝓤 H (𝓖 .A) F.signature (F.spec 𝓤 H (𝓖 .A) (𝓜 .mem) (𝓡 .run)))
-    (tables 𝓤 H 𝓜 𝓡 code.env .C) (tables 𝓤 H 𝓜 𝓡 code.env .Λ) #blocks·block-or code.function (code.unfolded 𝓤 H 𝓜 𝓡)
+    (tables 𝓤 H 𝓜 𝓡 code.env .C) (tables 𝓤 H 𝓜 𝓡 code.env .Λ) #tables·block-or code.function (code.unfolded 𝓤 H 𝓜 𝓡)
     (meets 𝓤 H (𝓖 .A) (givenOf 𝓤 H 𝓜 𝓖) (𝓜 .mem) (𝓡 .run) (tablesOf 𝓤 H 𝓜 (tables 𝓤 H 𝓜 𝓡 code.env)))

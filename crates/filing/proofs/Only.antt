@@ -8,7 +8,7 @@ use prog.Routine.{Routine}
 use prog.Wp.{Heap}
 use ghost.Atoms.{Atoms}
 use contract.Monad.{Fun, fact}
-use denote.Ref.{RefT, now}
+use denote.Ref.{RefT, ptr, now}
 use Prim.Native.Nat.{ℕ}
 use Rattle.appending.specs.declared.Placed.{Placed}
 use Rattle.bounds.specs.declared.Why.{Why}
@@ -21,6 +21,7 @@ use Rattle.builder.specs.declared.State.{State}
 use Rattle.column.specs.declared.Block.{Block}
 use Rattle.filing.specs.Files.{Files, filed}
 use Rattle.finishing.specs.declared.Finished.{Finished}
+use Rattle.finishing.specs.Places.{getPoints}
 use mathlib.Core.List.{List}
 use mathlib.Core.Path.{_∙_, _≡_, refl, sym}
 use Rattle.filing.proofs.append_null as append_null
@@ -101,15 +102,16 @@ module _ {M : Type 1} (𝓤 : URA M) (H : Heap 𝓤) (A : Atoms 𝓤) (mem : Mem
 module _ {M : Type 1} (𝓤 : URA M) (H : Heap 𝓤) (A : Atoms 𝓤) (mem : Memory → SProp 𝓤) (run : Routine → Fun 𝓤) (κ0 κ1 κ2 κ3 : Lft)
     (s : State) (views : RefT (List ℕ)) (bytes : RefT (List ℕ)) (table : RefT (List Block)) (nulls : RefT (List ℕ)) (places : RefT (List ℕ)) (r : ℕ) where
   abbrev pub get-value-fact : RefT (List ℕ) → Type 0
-  get-value-fact z = now z ≡ getValue (filed s (now views) (now bytes) (now table) (now nulls) (now places)) r
+  get-value-fact z = (now z ≡ getValue (filed s (now views) (now bytes) (now table) (now nulls) (now places)) r)
+      × (ptr z ≡ getPoints (filed s (now views) (now bytes) (now table) (now nulls) (now places)) r (ptr views) (ptr bytes))
 
   pub get-value-says : (z : RefT (List ℕ)) → get_value.clauses 𝓤 H A mem run (κ0, (κ1, (κ2, (κ3, tt))))
       (s, (views, (bytes, (table, (nulls, (places, (r, tt))))))) .ensures tt z (s, (views, (bytes, (table, (nulls, (places, (r, tt)))))))
       ≡ fact 𝓤 (get-value-fact z)
   get-value-says z = refl
 
-  pub get-value-one : (z z′ : RefT (List ℕ)) → get-value-fact z → get-value-fact z′ → now z ≡ now z′
-  get-value-one z z′ p q = p ∙ sym q
+  pub get-value-one : (z z′ : RefT (List ℕ)) → get-value-fact z → get-value-fact z′ → (ptr z ≡ ptr z′) × (now z ≡ now z′)
+  get-value-one z z′ p q = (p .1 ∙ sym (q .1), p .0 ∙ sym (q .0))
 
 module _ {M : Type 1} (𝓤 : URA M) (H : Heap 𝓤) (A : Atoms 𝓤) (mem : Memory → SProp 𝓤) (run : Routine → Fun 𝓤) (κ0 κ1 κ2 κ3 κ4 κ5 : Lft)
     (s : State) (views : RefT (List ℕ)) (bytes : RefT (List ℕ)) (table : RefT (List Block)) (nulls : RefT (List ℕ)) (places : RefT (List ℕ))

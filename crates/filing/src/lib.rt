@@ -1,7 +1,6 @@
 // The builder's calls over a block table that is lent as a slice of records, which the caller can write through.
 // A function that has the table is proved by hand, so each is thin: a function over the count of the records does the work and answers what is to be written.
 ghost use mathlib.Core.Path.{_≡_};
-ghost use mathlib.Core.Bool.{true};
 ghost use mathlib.Core.List.{List};
 ghost use Prim.Native.Nat.{ℕ, _+_, _*_, _≤_, _<_};
 ghost use lib.ListN.{length, set};
@@ -10,16 +9,17 @@ ghost use Rattle.bounds.specs.Bounds.{blockLimit};
 ghost use Rattle.views.specs.View.{viewAt, blockOf};
 ghost use Rattle.column.specs.declared.Block.{Block};
 ghost use Rattle.column.specs.Room.{bare};
-ghost use Rattle.column.specs.Meaning.{blocksOf, shown};
-ghost use Rattle.column.specs.Truth.{reachable};
-ghost use Rattle.builder.specs.State.{allBlocks, fitsRooms, recorded};
+ghost use Rattle.builder.specs.State.{allBlocks, fitsRooms};
 ghost use Rattle.builder.specs.Rooms.{roomOfRows, roomOfBlocks, roomOfBytes, Ready};
 ghost use Rattle.builder.specs.Get.{whyGet, getValue};
 ghost use Rattle.builder.specs.Others.{whyBlock, putBlock, blockNumber};
 ghost use Rattle.builder.specs.Values.{whyNull, putNull};
 ghost use Rattle.builder.specs.Finish.{whyFinish, copied, finished, finishColumn};
 ghost use Rattle.filing.specs.Files.{Files, filed, openTable};
-ghost use Rattle.filing.specs.Rows.{Names, Sees, Reached};
+ghost use Rattle.filing.specs.Rows.{Names, Sees};
+ghost use Rattle.finishing.specs.Places.{spotRow, getPoints};
+ghost use Rattle.column.specs.Spot.{Lies};
+ghost use denote.Ref.{ptr};
 ghost use Rattle.filing.specs.LayLaws.{blockBy};
 use appending::Placed;
 use bounds::Refusal;
@@ -27,6 +27,7 @@ use bounds::Why;
 use builder::Answer;
 use builder::State;
 use column::Block;
+use column::Spot;
 use finishing::Finished;
 
 // A record, and where in the table it goes; past the table's end it goes nowhere.
@@ -43,7 +44,7 @@ pub struct Ended {
 }
 
 // Whether a state fits what is lent, by the lengths, and by the count of the records.
-fn fits_with(
+pub fn fits_with(
     s: State,
     views: usize,
     bytes: usize,
@@ -284,48 +285,14 @@ pub fn record_or(s: State, k: usize, b: Block) -> Block
     Block { start, len }
 }
 
-// Whether the view of a row that is there is reachable, by the record that the table has of its block.
-fn reach_row(s: State, views: &[u8], bytes: &[u8], r: usize, b: Block) -> bool
+// Where the value of a row stands while it is built, by the record of the block that its view names.
+fn spot_row(s: State, views: &[u8], bytes: &[u8], r: usize, b: Block) -> Spot
     requires { ⌜ (16 * s .rows ≤ length (now views)) × (r < s .rows) × (allBlocks s ≤ blockLimit) ⌝ }
-    ensures { λ y. ⌜ ((ss ns : List ℕ) → Ready s (now (views .entry)) ss ns → Names (now (views .entry)) r b ss ns
-        → y ≡ reachable (recorded s (bare (now (views .entry)) (now (bytes .entry)) ss ns)) (allBlocks s) (viewAt (now (views .entry)) r)) ⌝ }
+    ensures { λ x. ⌜ Lies (now (views .entry)) (now (bytes .entry)) x × ((ss ns : List ℕ) → Ready s (now (views .entry)) ss ns
+        → Names (now (views .entry)) r b ss ns → x ≡ spotRow s (bare (now (views .entry)) (now (bytes .entry)) ss ns) r) ⌝ }
 {
-    let len = views::view_len(views, r);
-    if len <= views::SHORT_MOST {
-        return true;
-    }
-    let k = views::view_block(views, r);
-    if builder::all_blocks(s) <= k {
-        return false;
-    }
-    let d = record_or(s, k, b);
-    let start = d.start;
-    let size = d.len;
-    if !column::in_data(bytes, start, size) {
-        return false;
-    }
-    views::view_offset(views, r) + len <= size
-}
-
-// The value that a reachable view shows, by the record that the table has of its block.
-fn part_row<'a>(s: State, views: &'a [u8], bytes: &'a [u8], r: usize, b: Block) -> &'a [u8]
-    requires { ⌜ (16 * s .rows ≤ length (now views)) × (r < s .rows) × Reached s (now views) (now bytes) r b ⌝ }
-    ensures { λ y. ⌜ ((ss ns : List ℕ) → Ready s (now (views .entry)) ss ns → Names (now (views .entry)) r b ss ns
-        → reachable (recorded s (bare (now (views .entry)) (now (bytes .entry)) ss ns)) (allBlocks s) (viewAt (now (views .entry)) r) ≡ true
-        → now y ≡ shown (blocksOf (recorded s (bare (now (views .entry)) (now (bytes .entry)) ss ns)) (allBlocks s)) (viewAt (now (views .entry)) r)) ⌝ }
-{
-    let len = views::view_len(views, r);
-    if len <= views::SHORT_MOST {
-        let a = views::VIEW_SIZE * r + 4;
-        let e = a + len;
-        return &views[a..e];
-    }
-    let k = views::view_block(views, r);
-    let d = record_or(s, k, b);
-    let start = d.start;
-    let a = start + views::view_offset(views, r);
-    let e = a + len;
-    &bytes[a..e]
+    let d = record_or(s, views::view_block(views, r), b);
+    column::spot_with(views, r, builder::all_blocks(s), column::room_of(bytes), d)
 }
 
 // Why a row's value is refused: the work, by the count of the records and the record of the block that the row's view names.
@@ -356,7 +323,7 @@ fn why_with<'a>(
     if rows <= r {
         return Why::Refused(Refusal::Row);
     }
-    if !reach_row(s, views, bytes, r, b) {
+    if !column::is_reached(spot_row(s, views, bytes, r, b)) {
         return Why::Refused(Refusal::BadView(r));
     }
     Why::Accepted
@@ -374,7 +341,9 @@ fn get_with<'a>(
     r: usize,
 ) -> &'a [u8]
     ensures { λ y. ⌜ ((t : List Block) → count ≡ length t → Sees (now (views .entry)) r b t
-        → now y ≡ getValue (filed s (now (views .entry)) (now (bytes .entry)) t (now (nulls .entry)) (now (places .entry))) r) ⌝ }
+        → (now y ≡ getValue (filed s (now (views .entry)) (now (bytes .entry)) t (now (nulls .entry)) (now (places .entry))) r)
+        × (ptr y ≡ getPoints (filed s (now (views .entry)) (now (bytes .entry)) t (now (nulls .entry)) (now (places .entry))) r (ptr (views .entry))
+        (ptr (bytes .entry)))) ⌝ }
 {
     let rows = s.rows;
     if !fits_with(
@@ -390,10 +359,11 @@ fn get_with<'a>(
     if rows <= r {
         return &views[0..0];
     }
-    if !reach_row(s, views, bytes, r, b) {
+    let spot = spot_row(s, views, bytes, r, b);
+    if !column::is_reached(spot) {
         return &views[0..0];
     }
-    part_row(s, views, bytes, r, b)
+    column::part_of(views, bytes, spot)
 }
 
 // The question beside `get_value`: why a row's value is refused.
@@ -424,7 +394,9 @@ pub fn get_value<'a>(
     places: &[u32],
     r: usize,
 ) -> &'a [u8]
-    ensures { λ y. ⌜ now y ≡ getValue (filed s (now (views .entry)) (now (bytes .entry)) (now (table .entry)) (now (nulls .entry)) (now (places .entry))) r ⌝ }
+    ensures { λ y. ⌜ (now y ≡ getValue (filed s (now (views .entry)) (now (bytes .entry)) (now (table .entry)) (now (nulls .entry)) (now (places .entry))) r)
+        × (ptr y ≡ getPoints (filed s (now (views .entry)) (now (bytes .entry)) (now (table .entry)) (now (nulls .entry)) (now (places .entry))) r
+        (ptr (views .entry)) (ptr (bytes .entry))) ⌝ }
 {
     let k = named(views, r);
     let b = tables::block_or(table, k, Block { start: 0, len: 0 });

@@ -45,8 +45,8 @@ use Rattle.merging.specs.declared.Found.{Found}
 use Rattle.column.proofs.Block as T
 use Rattle.merging.proofs.Found as Z
 use Rattle.merging.proofs.Found.Laws as Z′
-use Rattle.filing.proofs.Quest as Q
-use Rattle.filing.proofs.Quest.Laws as Q′
+use Rattle.filing_values.proofs.Quest as Q
+use Rattle.filing_values.proofs.Quest.Laws as Q′
 use Rattle.builder.proofs.State as S
 use Rattle.builder.proofs.State.Laws as S′
 use Rattle.filing_values.proofs.begin as Cbeginm

@@ -53,14 +53,18 @@ in-data-requires : tie.Need-in-data-requires
 in-data-requires c κs = search needs
 
 returns-6 : tie.Need-returns-6
-returns-6 c =
-    let b5 = c .before .before .before .before .before in let b10 = b5 .before .before .before .before .before in
-    let b15 = b10 .before .before .before .before .before in
-    λ ss ns rd lim long nm. shows-no-data _ _ _ ss ns _ _ rd _ _ (b10 .if1 .left) (b5 .before .before .view-len .ensures .0)
-    (b5 .view-block .ensures .0) (omega (arith, long)) _ _ (omega arith) (or-start (b15 .args .s) _ _ ss ns _
-    (c .before .before .record-or .ensures .0) (nm (b10 .if1 .left) _ (b5 .view-block .ensures .0))) (or-size (b15 .args .s) _ _ ss ns _
-    (c .before .before .record-or .ensures .1) (nm (b10 .if1 .left) _ (b5 .view-block .ensures .0))) _ (c .before .in-data .ensures)
-    (not-true _ (c .if6 .taken))
+returns-6 c = λ ss ns rd lim long nm. shows-no-data _ _ _ ss ns _ _ rd _ _
+    (c .before .before .before .before .before .before .before .before .before .before .if1 .left)
+    (c .before .before .before .before .before .before .before .view-len .ensures .0)
+    (c .before .before .before .before .before .view-block .ensures .0) (omega (arith, long)) _ _ (omega arith)
+    (or-start (c .before .before .before .before .before .before .before .before .before .before .before .before .before .before .before .args .s) _ _
+    ss ns _ (c .before .before .record-or .ensures .0)
+    (nm (c .before .before .before .before .before .before .before .before .before .before .if1 .left) _
+    (c .before .before .before .before .before .view-block .ensures .0)))
+    (or-size (c .before .before .before .before .before .before .before .before .before .before .before .before .before .before .before .args .s) _ _
+    ss ns _ (c .before .before .record-or .ensures .1)
+    (nm (c .before .before .before .before .before .before .before .before .before .before .if1 .left) _
+    (c .before .before .before .before .before .view-block .ensures .0))) _ (c .before .in-data .ensures) (not-true _ (c .if6 .taken))
 
 view-offset-requires : tie.Need-view-offset-requires
 view-offset-requires c κs = search needs
@@ -69,14 +73,19 @@ add-if7 : tie.Need-add-if7
 add-if7 c = search needs
 
 returns-7 : tie.Need-returns-7
-returns-7 c =
-    let b7 = c .before .before .before .before .before .before .before in let b9 = b7 .before .before in let b12 = b9 .before .before .before in
-    let b17 = b12 .before .before .before .before .before in
-    λ ss ns rd lim long nm. shows-over _ _ _ ss ns _ _ rd _ _ (b12 .if1 .left) (b9 .view-len .ensures .0) (b7 .view-block .ensures .0)
-    (omega (arith, long)) _ _ (omega arith) (or-start (b17 .args .s) _ _ ss ns _ (c .before .before .before .before .record-or .ensures .0)
-    (nm (b12 .if1 .left) _ (b7 .view-block .ensures .0))) (or-size (b17 .args .s) _ _ ss ns _
-    (c .before .before .before .before .record-or .ensures .1) (nm (b12 .if1 .left) _ (b7 .view-block .ensures .0))) _
-    (c .before .before .before .in-data .ensures) (not-false _ (c .before .before .if6 .left)) _ (c .before .view-offset .ensures .0) (omega arith)
+returns-7 c = λ ss ns rd lim long nm. shows-over _ _ _ ss ns _ _ rd _ _
+    (c .before .before .before .before .before .before .before .before .before .before .before .before .if1 .left)
+    (c .before .before .before .before .before .before .before .before .before .view-len .ensures .0)
+    (c .before .before .before .before .before .before .before .view-block .ensures .0) (omega (arith, long)) _ _ (omega arith)
+    (or-start (c .before .before .before .before .before .before .before .before .before .before .before .before .before .before .before .before
+    .before .args .s) _ _ ss ns _ (c .before .before .before .before .record-or .ensures .0)
+    (nm (c .before .before .before .before .before .before .before .before .before .before .before .before .if1 .left) _
+    (c .before .before .before .before .before .before .before .view-block .ensures .0)))
+    (or-size (c .before .before .before .before .before .before .before .before .before .before .before .before .before .before .before .before
+    .before .args .s) _ _ ss ns _ (c .before .before .before .before .record-or .ensures .1)
+    (nm (c .before .before .before .before .before .before .before .before .before .before .before .before .if1 .left) _
+    (c .before .before .before .before .before .before .before .view-block .ensures .0))) _ (c .before .before .before .in-data .ensures)
+    (not-false _ (c .before .before .if6 .left)) _ (c .before .view-offset .ensures .0) (omega arith)
 
 add-a : tie.Need-add-a
 add-a c = omega (
@@ -107,14 +116,20 @@ same-requires : tie.Need-same-requires
 same-requires c κs = search needs
 
 returns-8 : tie.Need-returns-8
-returns-8 c =
-    let b6 = c .before .before .before .before .before .before in let b9 = b6 .before .before .before in let b11 = b9 .before .before in
-    let b14 = b11 .before .before .before in let b19 = b14 .before .before .before .before .before in
-    λ ss ns rd lim long nm. shows-here _ _ _ ss ns _ _ rd _ _ (b14 .if1 .left) (b11 .view-len .ensures .0) (b9 .view-block .ensures .0)
-    (omega (arith, long)) _ _ (omega arith) (or-start (b19 .args .s) _ _ ss ns _ (b6 .record-or .ensures .0)
-    (nm (b14 .if1 .left) _ (b9 .view-block .ensures .0))) (or-size (b19 .args .s) _ _ ss ns _ (b6 .record-or .ensures .1)
-    (nm (b14 .if1 .left) _ (b9 .view-block .ensures .0))) _ (c .before .before .before .before .before .in-data .ensures)
-    (not-false _ (c .before .before .before .before .if6 .left)) _ (c .before .before .before .view-offset .ensures .0) _ (omega arith) (c .same .ensures)
+returns-8 c = λ ss ns rd lim long nm. shows-here _ _ _ ss ns _ _ rd _ _
+    (c .before .before .before .before .before .before .before .before .before .before .before .before .before .before .if1 .left)
+    (c .before .before .before .before .before .before .before .before .before .before .before .view-len .ensures .0)
+    (c .before .before .before .before .before .before .before .before .before .view-block .ensures .0) (omega (arith, long)) _ _ (omega arith)
+    (or-start (c .before .before .before .before .before .before .before .before .before .before .before .before .before .before .before .before
+    .before .before .before .args .s) _ _ ss ns _ (c .before .before .before .before .before .before .record-or .ensures .0)
+    (nm (c .before .before .before .before .before .before .before .before .before .before .before .before .before .before .if1 .left) _
+    (c .before .before .before .before .before .before .before .before .before .view-block .ensures .0)))
+    (or-size (c .before .before .before .before .before .before .before .before .before .before .before .before .before .before .before .before
+    .before .before .before .args .s) _ _ ss ns _ (c .before .before .before .before .before .before .record-or .ensures .1)
+    (nm (c .before .before .before .before .before .before .before .before .before .before .before .before .before .before .if1 .left) _
+    (c .before .before .before .before .before .before .before .before .before .view-block .ensures .0))) _
+    (c .before .before .before .before .before .in-data .ensures) (not-false _ (c .before .before .before .before .if6 .left)) _
+    (c .before .before .before .view-offset .ensures .0) _ (omega arith) (c .same .ensures)
 
 pub shows-with-spec : {M : Type 1} → statement M
 shows-with-spec =

@@ -28,21 +28,26 @@ part-result-end c = search needs
 
 returns : tie.Need-returns
 returns c = (
-  value-no _ _ _ _ _ _ _ _ _ _ (c .before .before .before .why-get .ensures) (sym (c .before .before .is-accepted .ensures) ∙ not-true _ (c .before .if1 .taken)) refl,
-  points-no _ _ _ _ _ _ _ _ _ _ _ _ (c .before .before .before .why-get .ensures) (sym (c .before .before .is-accepted .ensures) ∙ not-true _ (c .before .if1 .taken)) refl,
+  value-no _ _ _ _ _ _ _ _ _ _ (c .before .before .before .why-get .ensures) (sym (c .before .before .is-accepted .ensures)
+      ∙ not-true _ (c .before .if1 .taken)) refl,
+  points-no _ _ _ _ _ _ _ _ _ _ _ _ (c .before .before .before .why-get .ensures) (sym (c .before .before .is-accepted .ensures)
+      ∙ not-true _ (c .before .if1 .taken)) refl,
 )
 
 spot-row-requires : tie.Need-spot-row-requires
 spot-row-requires c κs =
     let a = c .before .before .before .before .before .before .before .before .before .args in
-    let g = got (a .s) (now (a .views)) (now (a .bytes)) (now (a .starts)) (now (a .lens)) (now (a .nulls)) (now (a .places)) (a .r) (ap isAccepted (sym (c .before .before .why-get .ensures)) ∙ (sym (c .before .is-accepted .ensures) ∙ not-false _ (c .if1 .left))) in
+    let g = got (a .s) (now (a .views)) (now (a .bytes)) (now (a .starts)) (now (a .lens)) (now (a .nulls)) (now (a .places)) (a .r)
+    (ap isAccepted (sym (c .before .before .why-get .ensures)) ∙ (sym (c .before .is-accepted .ensures) ∙ not-false _ (c .if1 .left))) in
     let f = fits-gives (a .s) (now (a .views)) (now (a .bytes)) (now (a .starts)) (now (a .lens)) (now (a .nulls)) (now (a .places)) (g .fit) in
     (ready (a .s) (now (a .views)) (now (a .bytes)) (now (a .starts)) (now (a .lens)) (now (a .nulls)) (now (a .places)) f, g .row)
 
 part-of-requires : tie.Need-part-of-requires
 part-of-requires c κs =
     let a = c .before .before .before .before .before .before .before .before .before .before .args in
-    let g = got (a .s) (now (a .views)) (now (a .bytes)) (now (a .starts)) (now (a .lens)) (now (a .nulls)) (now (a .places)) (a .r) (ap isAccepted (sym (c .before .before .before .why-get .ensures)) ∙ (sym (c .before .before .is-accepted .ensures) ∙ not-false _ (c .before .if1 .left))) in
+    let g = got (a .s) (now (a .views)) (now (a .bytes)) (now (a .starts)) (now (a .lens)) (now (a .nulls)) (now (a .places)) (a .r)
+    (ap isAccepted (sym (c .before .before .before .why-get .ensures)) ∙ (sym (c .before .before .is-accepted .ensures)
+    ∙ not-false _ (c .before .if1 .left))) in
     let f = fits-gives (a .s) (now (a .views)) (now (a .bytes)) (now (a .starts)) (now (a .lens)) (now (a .nulls)) (now (a .places)) (g .fit) in
     let k = ready (a .s) (now (a .views)) (now (a .bytes)) (now (a .starts)) (now (a .lens)) (now (a .nulls)) (now (a .places)) f in
     row-lies _ _ _ _ _ _ _ (c .spot-row .ensures) (omega (arith, g .row, k .rows))
@@ -50,9 +55,14 @@ part-of-requires c κs =
 returns-2 : tie.Need-returns-2
 returns-2 c =
     let a = c .before .before .before .before .before .before .before .before .before .before .before .args in
-    let g = got (a .s) (now (a .views)) (now (a .bytes)) (now (a .starts)) (now (a .lens)) (now (a .nulls)) (now (a .places)) (a .r) (ap isAccepted (sym (c .before .before .before .before .why-get .ensures)) ∙ (sym (c .before .before .before .is-accepted .ensures) ∙ not-false _ (c .before .before .if1 .left))) in (
-      value-yes _ _ _ _ _ _ _ _ _ _ (c .before .before .before .before .why-get .ensures) (sym (c .before .before .before .is-accepted .ensures) ∙ not-false _ (c .before .before .if1 .left)) (c .part-of .ensures .0 ∙ row-shown _ _ _ _ _ _ _ (c .before .spot-row .ensures) (g .reach)),
-      points-yes _ _ _ _ _ _ _ _ _ _ _ _ (c .before .before .before .before .why-get .ensures) (sym (c .before .before .before .is-accepted .ensures) ∙ not-false _ (c .before .before .if1 .left)) (c .part-of .ensures .1 ∙ ap (pointsTo (ptr (a .views)) (ptr (a .bytes))) (c .before .spot-row .ensures)),
+    let g = got (a .s) (now (a .views)) (now (a .bytes)) (now (a .starts)) (now (a .lens)) (now (a .nulls)) (now (a .places)) (a .r)
+    (ap isAccepted (sym (c .before .before .before .before .why-get .ensures)) ∙ (sym (c .before .before .before .is-accepted .ensures)
+    ∙ not-false _ (c .before .before .if1 .left))) in (
+      value-yes _ _ _ _ _ _ _ _ _ _ (c .before .before .before .before .why-get .ensures) (sym (c .before .before .before .is-accepted .ensures)
+          ∙ not-false _ (c .before .before .if1 .left)) (c .part-of .ensures .0 ∙ row-shown _ _ _ _ _ _ _ (c .before .spot-row .ensures) (g .reach)),
+      points-yes _ _ _ _ _ _ _ _ _ _ _ _ (c .before .before .before .before .why-get .ensures) (sym (c .before .before .before .is-accepted .ensures)
+          ∙ not-false _ (c .before .before .if1 .left)) (c .part-of .ensures .1 ∙ ap (pointsTo (ptr (a .views)) (ptr (a .bytes)))
+          (c .before .spot-row .ensures)),
     )
 
 pub get-value-spec : {M : Type 1} → statement M

@@ -29,7 +29,8 @@ at-or-requires-2 : tie.Need-at-or-requires-2
 at-or-requires-2 c κs = omega (arith, all-bounds (c .before .before .before .before .before .before .before .before .before .args .s))
 
 returns-3 : tie.Need-returns-3
-returns-3 c = λ l h. row-record _ _ [] _ _ _ (c .before .before .before .before .before .before .before .before .before .before .pre .0) _ _ _ (c .before .before .before .before .view-block .ensures .0) (omega arith) (c .before .at-or .ensures) (c .at-or2 .ensures)
+returns-3 c = λ l h. row-record _ _ [] _ _ _ (c .before .before .before .before .before .before .before .before .before .before .pre .0) _ _ _
+    (c .before .before .before .before .view-block .ensures .0) (omega arith) (c .before .at-or .ensures) (c .at-or2 .ensures)
 
 pub record-row-spec : {M : Type 1} → statement M
 record-row-spec =

@@ -17,7 +17,8 @@ spot-with-requires : tie.Need-spot-with-requires
 spot-with-requires c κs = search needs
 
 returns : tie.Need-returns
-returns c = row-spot _ _ _ _ _ _ (c .before .before .before .before .before .before .before .before .pre .0) _ _ _ (c .before .room-of .ensures) (rw (← c .before .before .all-blocks .ensures) (c .spot-with .ensures)) (c .before .before .before .record-row .ensures)
+returns c = row-spot _ _ _ _ _ _ (c .before .before .before .before .before .before .before .before .pre .0) _ _ _ (c .before .room-of .ensures)
+    (rw (← c .before .before .all-blocks .ensures) (c .spot-with .ensures)) (c .before .before .before .record-row .ensures)
 
 pub spot-row-spec : {M : Type 1} → statement M
 spot-row-spec =

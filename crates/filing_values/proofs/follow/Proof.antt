@@ -128,7 +128,7 @@ abbrev ty6 : Ty
 ty6 = spell Mir.table (tyStruct (38 ∷ 91 ∷ 93 ∷ []) (tcons (tyRef (named 4) imm (tyInt w8)) (tcons (tyInt w64) tnil)))
 
 abbrev ty7 : Ty
-ty7 = spell Mir.table (tyNamed (102 ∷ 105 ∷ 108 ∷ 105 ∷ 110 ∷ 103 ∷ 58 ∷ 58 ∷ 81 ∷ 117 ∷ 101 ∷ 115 ∷ 116 ∷ [], []))
+ty7 = spell Mir.table (tyNamed (102 ∷ 105 ∷ 108 ∷ 105 ∷ 110 ∷ 103 ∷ 95 ∷ 118 ∷ 97 ∷ 108 ∷ 117 ∷ 101 ∷ 115 ∷ 58 ∷ 58 ∷ 81 ∷ 117 ∷ 101 ∷ 115 ∷ 116 ∷ [], []))
 
 abbrev ty8 : Ty
 ty8 = spell Mir.table (tyInt w64)

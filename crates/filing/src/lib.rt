@@ -43,7 +43,7 @@ pub struct Ended {
 }
 
 // Whether a state fits what is lent, by the lengths, and by the count of the records.
-fn fits_with(
+pub fn fits_with(
     s: State,
     views: usize,
     bytes: usize,

@@ -1,4 +1,4 @@
--- A column over a table of records: what is known of it before it is added, and what laying its blocks asks. Assumes nothing.
+-- A column over a table of records: what is known of it before it is added, and what laying its blocks asks; a view's verdict by one record. Assumes nothing.
 use mathlib.Core.Path.{_≡_}
 use mathlib.Core.Bool.{true, not}
 use mathlib.Core.List.{List, []}
@@ -14,9 +14,9 @@ use Rattle.column.specs.declared.Column.{Column}
 use Rattle.column.specs.Lent.{buffers, block, allInData}
 use Rattle.validity.specs.Check.{whyInvalid}
 use Rattle.builder.specs.declared.State.{State}
-use Rattle.builder.specs.State.{allBlocks, used, fitsRooms}
+use Rattle.builder.specs.State.{held, allBlocks, used, fitsRooms}
 use Rattle.builder.specs.Rooms.{roomOfRows, roomOfBlocks, roomOfBytes}
-use Rattle.builder.specs.Others.{whyRoom, sizes}
+use Rattle.builder.specs.Others.{whyRoom, whyView, sizes}
 use Rattle.builder.specs.Does.{answer}
 use Rattle.appending.specs.Laying.{byKind}
 use Rattle.filing_columns.specs.declared.Poured.{Poured}
@@ -65,3 +65,8 @@ columnBy s views bytes count nulls places c w m =
 -- nothing to be written: a record past the table's end, and no blocks
 abbrev pub stays : Why → State → ℕ → Poured
 stays w s count = record { answer = answer w s; at = count; block = block 0 0; first = 0; base = 0; blocks = 0 }
+
+-- w is the verdict on n bytes at offset o of block k over each table of two number slices that has b as that block's record
+abbrev pub Says : State → List ℕ → List ℕ → List ℕ → List ℕ → ℕ → ℕ → ℕ → ℕ → Block → Why → Type 0
+Says s views bytes nulls places count k o n b w = (starts lens : List ℕ) → count ≡ length starts → count ≡ length lens
+    → (k < count → b ≡ block (getD starts k 0) (getD lens k 0)) → w ≡ whyView (held s views bytes starts lens nulls places) k o n

@@ -1,20 +1,20 @@
-// A column added to a builder, the block tables of both lent as slices of records: the builder's is written through, the column's is read.
+// A column and a view of a completed block added to a builder, its block table, and the column's, lent as slices of records.
 // A function that has a table is proved by hand, so each is thin: a function over the count of the records does the work and answers what is to be written.
 ghost use mathlib.Core.Path.{_≡_};
 ghost use mathlib.Core.Bool.{true};
 ghost use mathlib.Core.List.{List, []};
 ghost use Prim.Native.Nat.{ℕ, _+_, _*_, _≤_};
-ghost use lib.ListN.{length, set};
+ghost use lib.ListN.{length, set, getD};
 ghost use lib.Seq.{paste};
 ghost use Rattle.bounds.specs.Bounds.{rowLimit, blockLimit};
 ghost use Rattle.bounds.specs.Refusals.{isAccepted, ifAccepted};
 ghost use Rattle.column.specs.declared.Block.{Block};
-ghost use Rattle.column.specs.Lent.{buffers};
+ghost use Rattle.column.specs.Lent.{buffers, block};
 ghost use Rattle.column.specs.Meaning.{bytesOf};
-ghost use Rattle.builder.specs.Others.{blockBytes, sizes, whyColumn, putColumn};
+ghost use Rattle.builder.specs.Others.{blockBytes, sizes, whyColumn, putColumn, whyView, putView};
 ghost use Rattle.appending.specs.Laying.{putData, putRecords, byKind};
 ghost use Rattle.filing.specs.Files.{Files};
-ghost use Rattle.filing_columns.specs.Columns.{Counts, Lays, Source, Sourced, columnBy, stays};
+ghost use Rattle.filing_columns.specs.Columns.{Counts, Lays, Source, Sourced, columnBy, stays, Says};
 use bounds::Refusal;
 use bounds::Why;
 use builder::Answer;
@@ -260,4 +260,129 @@ pub fn append_column<'a>(
     tables::put_or(table, r.at, r.block);
     put_blocks(bytes, table, srcbytes, srctable, r.first, r.base, r.blocks);
     r.answer
+}
+
+// A block's number, as the table counts.
+fn number(k: u32) -> usize
+    ensures { λ r. ⌜ r ≡ k ⌝ }
+{
+    k as usize
+}
+
+// 2, 8, 9, 10 and 5 for n bytes at an offset of completed block k, by the count of the records and that of the block.
+fn why_view(
+    s: State,
+    views: &[u8],
+    bytes: &[u8],
+    count: usize,
+    b: Block,
+    nulls: &[u8],
+    places: &[u32],
+    k: u32,
+    offset: u32,
+    n: u32,
+) -> Why
+    ensures { λ w. ⌜ Says s (now (views .entry)) (now (bytes .entry)) (now (nulls .entry)) (now (places .entry)) count k offset n b w ⌝ }
+{
+    let kind = s.kind;
+    let merging = s.merging;
+    let rows = s.rows;
+    if !filing::fits_with(
+        s,
+        views.len(),
+        bytes.len(),
+        count,
+        nulls.len(),
+        places.len(),
+    ) {
+        return Why::Refused(Refusal::Fit);
+    }
+    if s.blocks <= k as usize {
+        return Why::Refused(Refusal::NoBlock);
+    }
+    let start = b.start;
+    let size = b.len;
+    if !column::in_data(bytes, start, size) {
+        return Why::Refused(Refusal::Range);
+    }
+    let o = offset as usize;
+    let m = n as usize;
+    if size < o + m {
+        return Why::Refused(Refusal::Range);
+    }
+    let a = start + o;
+    let e = a + m;
+    if !column::of_kind(kind, &bytes[a..e]) {
+        return Why::Refused(Refusal::NotUtf8);
+    }
+    if builder::rows_room(merging, views.len(), nulls.len(), places.len()) <= rows {
+        return Why::Refused(Refusal::RowRoom);
+    }
+    Why::Accepted
+}
+
+// A row is added that shows n bytes at an offset of completed block k: the work, by the count of the records and that of the block.
+fn view_with(
+    s: State,
+    views: &mut [u8],
+    bytes: &[u8],
+    count: usize,
+    b: Block,
+    nulls: &mut [u8],
+    places: &[u32],
+    k: u32,
+    offset: u32,
+    n: u32,
+) -> Answer
+    ensures { λ r. ⌜ ((t : List Block) → count ≡ length t → b ≡ getD t k (block 0 0) → Files (λ d. whyView d k offset n) (putView k offset n) s
+        (now (views .entry)) (now (bytes .entry)) t (now (nulls .entry)) (now (places .entry))
+        r (now (views .exit)) (now (bytes .entry)) t (now (nulls .exit)) (now (places .entry))) ⌝ }
+{
+    let rows = s.rows;
+    let w = why_view(
+        s,
+        &views[..],
+        bytes,
+        count,
+        b,
+        &nulls[..],
+        places,
+        k,
+        offset,
+        n,
+    );
+    if !bounds::is_accepted(w) {
+        return Answer { why: w, state: s };
+    }
+    let a = b.start + offset as usize;
+    let e = a + n as usize;
+    views::put_view(views, views::VIEW_SIZE * rows, &bytes[a..e], k, offset);
+    null_bits::put_bit(nulls, rows, true);
+    let t = builder::row_more(s, true);
+    Answer {
+        why: Why::Accepted,
+        state: t,
+    }
+}
+
+// A row is added that shows n bytes at an offset of a completed block.
+pub fn append_view(
+    s: State,
+    views: &mut [u8],
+    bytes: &[u8],
+    table: &[Block],
+    nulls: &mut [u8],
+    places: &[u32],
+    block: u32,
+    offset: u32,
+    n: u32,
+) -> Answer
+    ensures { λ r. ⌜ Files (λ b. whyView b block offset n) (putView block offset n) s
+        (now (views .entry)) (now (bytes .entry)) (now (table .entry)) (now (nulls .entry)) (now (places .entry))
+        r (now (views .exit)) (now (bytes .entry)) (now (table .entry)) (now (nulls .exit)) (now (places .entry)) ⌝ }
+{
+    let k = number(block);
+    let b = tables::block_or(table, k, Block { start: 0, len: 0 });
+    let c = table.len();
+    view_with(s, views, bytes, c, b, nulls, places, block, offset, n)
 }

@@ -42,11 +42,11 @@ put-record-requires c κs =
 
 close-requires : tie.Need-close-requires
 close-requires c κs =
-    let b8 = c .before .before .before .before .before .before .before .before in let b9 = b8 .before in
-    let b20 = b9 .before .before .before .before .before .before .before .before .before .before .before in
-    let a = b20 .args in
+    let a = c .before .before .before .before .before .before .before .before .before .before .before .before .before .before .before .before .before
+    .before .before .before .args in
     let j = blocked (a .s) (now (a .views)) (now (a .bytes)) (now (a .starts)) (now (a .lens)) (now (a .nulls)) (now (a .places)) (now (a .x))
-    (ap isAccepted (sym (b9 .why-block .ensures)) ∙ (sym (b8 .is-accepted .ensures)
+    (ap isAccepted (sym (c .before .before .before .before .before .before .before .before .before .why-block .ensures))
+    ∙ (sym (c .before .before .before .before .before .before .before .before .is-accepted .ensures)
     ∙ not-false _ (c .before .before .before .before .before .before .before .if1 .left))) in
     let f = j .fit in
     (omega (arith, f .blocks, block-limit-small), omega (arith, f .small, byte-limit-small))
@@ -54,30 +54,34 @@ close-requires c κs =
 put-block-requires : tie.Need-put-block-requires
 unfolding closed
 put-block-requires c κs =
-    let b8 = c .before .before .before .before .before .before .before .before in let b11 = b8 .before .before .before in let b12 = b11 .before in
-    let b13 = b12 .before in let b24 = b13 .before .before .before .before .before .before .before .before .before .before .before in
-    let a = b24 .args in
+    let a = c .before .before .before .before .before .before .before .before .before .before .before .before .before .before .before .before .before
+    .before .before .before .before .before .before .before .args in
     let j = blocked (a .s) (now (a .views)) (now (a .bytes)) (now (a .starts)) (now (a .lens)) (now (a .nulls)) (now (a .places)) (now (a .x))
-    (ap isAccepted (sym (b13 .why-block .ensures)) ∙ (sym (b12 .is-accepted .ensures) ∙ not-false _ (b11 .if1 .left))) in
+    (ap isAccepted (sym (c .before .before .before .before .before .before .before .before .before .before .before .before .before .why-block
+    .ensures)) ∙ (sym (c .before .before .before .before .before .before .before .before .before .before .before .before .is-accepted .ensures)
+    ∙ not-false _ (c .before .before .before .before .before .before .before .before .before .before .before .if1 .left))) in
     let f = j .fit in
     let b = ap (λ (z : State). z .blocks) (c .before .before .before .close .ensures) in
     let d = ap (λ (z : State). z .base) (c .before .before .before .close .ensures) in
-    let e : length (b8 .put-record .last .1 .0) ≡ length (now (a .starts)) = search needs in
-    let g : length (b8 .put-record .last .1 .1 .0) ≡ length (now (a .lens)) = search needs in
+    let e : length (c .before .before .before .before .before .before .before .before .put-record .last .1 .0) ≡ length (now (a .starts)) = search needs in
+    let g : length (c .before .before .before .before .before .before .before .before .put-record .last .1 .1 .0) ≡ length (now (a .lens)) = search needs in
     (omega (arith, d, j .inside), omega (arith, b, e, j .starts), omega (arith, b, g, j .lens))
 
 block-more-requires : tie.Need-block-more-requires
 unfolding closed
 block-more-requires c κs =
-    let b10 = c .before .before .before .before .before .before .before .before .before .before in
-    let b18 = b10 .before .before .before .before .before .before .before .before in let b19 = b18 .before in let b20 = b19 .before in
-    let b31 = b20 .before .before .before .before .before .before .before .before .before .before .before in
-    let a = b31 .args in
+    let a = c .before .before .before .before .before .before .before .before .before .before .before .before .before .before .before .before .before
+    .before .before .before .before .before .before .before .before .before .before .before .before .before .before .args in
     let j = blocked (a .s) (now (a .views)) (now (a .bytes)) (now (a .starts)) (now (a .lens)) (now (a .nulls)) (now (a .places)) (now (a .x))
-    (ap isAccepted (sym (b20 .why-block .ensures)) ∙ (sym (b19 .is-accepted .ensures) ∙ not-false _ (b18 .if1 .left))) in
+    (ap isAccepted (sym (c .before .before .before .before .before .before .before .before .before .before .before .before .before .before .before
+    .before .before .before .before .before .why-block .ensures))
+    ∙ (sym (c .before .before .before .before .before .before .before .before .before .before .before .before .before .before .before .before
+    .before .before .before .is-accepted .ensures)
+    ∙ not-false _ (c .before .before .before .before .before .before .before .before .before .before .before .before .before .before .before
+    .before .before .before .if1 .left))) in
     let f = j .fit in
-    let b = ap (λ (z : State). z .blocks) (b10 .close .ensures) in
-    let d = ap (λ (z : State). z .base) (b10 .close .ensures) in
+    let b = ap (λ (z : State). z .blocks) (c .before .before .before .before .before .before .before .before .before .before .close .ensures) in
+    let d = ap (λ (z : State). z .base) (c .before .before .before .before .before .before .before .before .before .before .close .ensures) in
     (omega (arith, b, j .limit, block-limit-small), omega (arith, d, j .small, byte-limit-small))
 
 same-length-4 : tie.Need-same-length-4

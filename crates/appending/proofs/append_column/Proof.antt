@@ -55,54 +55,62 @@ put-record-requires c κs =
 
 close-requires : tie.Need-close-requires
 close-requires c κs =
-    let b8 = c .before .before .before .before .before .before .before .before in let b9 = b8 .before in
-    let b26 = b9 .before .before .before .before .before .before .before .before .before .before .before .before .before .before .before .before .before in
-    let a = b26 .args in
+    let a = c .before .before .before .before .before .before .before .before .before .before .before .before .before .before .before .before .before
+    .before .before .before .before .before .before .before .before .before .args in
     let k = taken (a .s) (now (a .views)) (now (a .bytes)) (now (a .starts)) (now (a .lens)) (now (a .nulls)) (now (a .places)) (now (a .srcviews))
-    (now (a .srcbytes)) (now (a .srcstarts)) (now (a .srclens)) (now (a .srcnulls)) (a .c) (ap isAccepted (sym (b9 .why-column .ensures))
-    ∙ (sym (b8 .is-accepted .ensures) ∙ not-false _ (c .before .before .before .before .before .before .before .if1 .left))) in
+    (now (a .srcbytes)) (now (a .srcstarts)) (now (a .srclens)) (now (a .srcnulls)) (a .c)
+    (ap isAccepted (sym (c .before .before .before .before .before .before .before .before .before .why-column .ensures))
+    ∙ (sym (c .before .before .before .before .before .before .before .before .is-accepted .ensures)
+    ∙ not-false _ (c .before .before .before .before .before .before .before .if1 .left))) in
     let f = k .fit in
     (omega (arith, f .blocks, block-limit-small), omega (arith, f .small, byte-limit-small))
 
 put-blocks-requires : tie.Need-put-blocks-requires
 put-blocks-requires c κs =
-    let b8 = c .before .before .before .before .before .before .before .before in let b11 = b8 .before .before .before in let b12 = b11 .before in
-    let b13 = b12 .before in
-    let b30 = b13 .before .before .before .before .before .before .before .before .before .before .before .before .before .before .before .before .before in
-    let a = b30 .args in
+    let a = c .before .before .before .before .before .before .before .before .before .before .before .before .before .before .before .before .before
+    .before .before .before .before .before .before .before .before .before .before .before .before .before .args in
     let k = taken (a .s) (now (a .views)) (now (a .bytes)) (now (a .starts)) (now (a .lens)) (now (a .nulls)) (now (a .places)) (now (a .srcviews))
-    (now (a .srcbytes)) (now (a .srcstarts)) (now (a .srclens)) (now (a .srcnulls)) (a .c) (ap isAccepted (sym (b13 .why-column .ensures))
-    ∙ (sym (b12 .is-accepted .ensures) ∙ not-false _ (b11 .if1 .left))) in
+    (now (a .srcbytes)) (now (a .srcstarts)) (now (a .srclens)) (now (a .srcnulls)) (a .c)
+    (ap isAccepted (sym (c .before .before .before .before .before .before .before .before .before .before .before .before .before .why-column
+    .ensures)) ∙ (sym (c .before .before .before .before .before .before .before .before .before .before .before .before .is-accepted .ensures)
+    ∙ not-false _ (c .before .before .before .before .before .before .before .before .before .before .before .if1 .left))) in
     let f = k .fit in
-    let e1 : length (b8 .put-record .last .1 .0) ≡ length (now (a .starts)) = search needs in
-    let e2 : length (b8 .put-record .last .1 .1 .0) ≡ length (now (a .lens)) = search needs in
+    let e1 : length (c .before .before .before .before .before .before .before .before .put-record .last .1 .0) ≡ length (now (a .starts)) = search needs in
+    let e2 : length (c .before .before .before .before .before .before .before .before .put-record .last .1 .1 .0) ≡ length (now (a .lens)) = search needs in
     taking (a .s) (now (a .views)) (now (a .bytes)) (now (a .starts)) (now (a .lens)) (now (a .nulls)) (now (a .places)) (now (a .srcviews))
     (now (a .srcbytes)) (now (a .srcstarts)) (now (a .srclens)) (now (a .srcnulls)) (a .c) k _ _ _ _ (c .before .before .before .close .ensures) refl e1 e2
 
 put-rows-requires : tie.Need-put-rows-requires
 unfolding closed
 put-rows-requires c κs =
-    let b11 = c .before .before .before .before .before .before .before .before .before .before .before in
-    let b19 = b11 .before .before .before .before .before .before .before .before in let b20 = b19 .before in let b21 = b20 .before in
-    let b38 = b21 .before .before .before .before .before .before .before .before .before .before .before .before .before .before .before .before .before in
-    let a = b38 .args in
+    let a = c .before .before .before .before .before .before .before .before .before .before .before .before .before .before .before .before .before
+    .before .before .before .before .before .before .before .before .before .before .before .before .before .before .before .before .before
+    .before .before .before .before .args in
     let k = taken (a .s) (now (a .views)) (now (a .bytes)) (now (a .starts)) (now (a .lens)) (now (a .nulls)) (now (a .places)) (now (a .srcviews))
-    (now (a .srcbytes)) (now (a .srcstarts)) (now (a .srclens)) (now (a .srcnulls)) (a .c) (ap isAccepted (sym (b21 .why-column .ensures))
-    ∙ (sym (b20 .is-accepted .ensures) ∙ not-false _ (b19 .if1 .left))) in
+    (now (a .srcbytes)) (now (a .srcstarts)) (now (a .srclens)) (now (a .srcnulls)) (a .c)
+    (ap isAccepted (sym (c .before .before .before .before .before .before .before .before .before .before .before .before .before .before .before
+    .before .before .before .before .before .before .why-column .ensures))
+    ∙ (sym (c .before .before .before .before .before .before .before .before .before .before .before .before .before .before .before .before
+    .before .before .before .before .is-accepted .ensures)
+    ∙ not-false _ (c .before .before .before .before .before .before .before .before .before .before .before .before .before .before .before
+    .before .before .before .before .if1 .left))) in
     let f = k .fit in
-    let b = ap (λ (z : State). z .blocks) (b11 .close .ensures) in
+    let b = ap (λ (z : State). z .blocks) (c .before .before .before .before .before .before .before .before .before .before .before .close .ensures) in
     (k .views, k .source .views, omega (arith, b, k .limit, block-limit-small))
 
 copy-column-requires : tie.Need-copy-column-requires
 copy-column-requires c κs =
-    let b23 = c .before .before .before .before .before .before .before .before .before .before .before .before .before .before .before .before
-    .before .before .before .before .before .before .before in
-    let b24 = b23 .before in let b25 = b24 .before in
-    let b42 = b25 .before .before .before .before .before .before .before .before .before .before .before .before .before .before .before .before .before in
-    let a = b42 .args in
+    let a = c .before .before .before .before .before .before .before .before .before .before .before .before .before .before .before .before .before
+    .before .before .before .before .before .before .before .before .before .before .before .before .before .before .before .before .before
+    .before .before .before .before .before .before .before .before .args in
     let k = taken (a .s) (now (a .views)) (now (a .bytes)) (now (a .starts)) (now (a .lens)) (now (a .nulls)) (now (a .places)) (now (a .srcviews))
-    (now (a .srcbytes)) (now (a .srcstarts)) (now (a .srclens)) (now (a .srcnulls)) (a .c) (ap isAccepted (sym (b25 .why-column .ensures))
-    ∙ (sym (b24 .is-accepted .ensures) ∙ not-false _ (b23 .if1 .left))) in
+    (now (a .srcbytes)) (now (a .srcstarts)) (now (a .srclens)) (now (a .srcnulls)) (a .c)
+    (ap isAccepted (sym (c .before .before .before .before .before .before .before .before .before .before .before .before .before .before .before
+    .before .before .before .before .before .before .before .before .before .before .why-column .ensures))
+    ∙ (sym (c .before .before .before .before .before .before .before .before .before .before .before .before .before .before .before .before
+    .before .before .before .before .before .before .before .before .is-accepted .ensures)
+    ∙ not-false _ (c .before .before .before .before .before .before .before .before .before .before .before .before .before .before .before
+    .before .before .before .before .before .before .before .before .if1 .left))) in
     let f = k .fit in
     (k .bits, omega (arith, k .rows, row-limit-small), k .source .bits, omega (arith, k .source .rows, row-limit-small))
 
@@ -125,17 +133,22 @@ flag-requires c κs = search needs
 column-more-requires : tie.Need-column-more-requires
 unfolding closed
 column-more-requires c κs =
-    let b20 = c .before .before .before .before .before .before .before .before .before .before .before .before .before .before .before .before
-    .before .before .before .before in
-    let b28 = b20 .before .before .before .before .before .before .before .before in let b29 = b28 .before in let b30 = b29 .before in
-    let b47 = b30 .before .before .before .before .before .before .before .before .before .before .before .before .before .before .before .before .before in
-    let a = b47 .args in
+    let a = c .before .before .before .before .before .before .before .before .before .before .before .before .before .before .before .before .before
+    .before .before .before .before .before .before .before .before .before .before .before .before .before .before .before .before .before
+    .before .before .before .before .before .before .before .before .before .before .before .before .before .args in
     let k = taken (a .s) (now (a .views)) (now (a .bytes)) (now (a .starts)) (now (a .lens)) (now (a .nulls)) (now (a .places)) (now (a .srcviews))
-    (now (a .srcbytes)) (now (a .srcstarts)) (now (a .srclens)) (now (a .srcnulls)) (a .c) (ap isAccepted (sym (b30 .why-column .ensures))
-    ∙ (sym (b29 .is-accepted .ensures) ∙ not-false _ (b28 .if1 .left))) in
+    (now (a .srcbytes)) (now (a .srcstarts)) (now (a .srclens)) (now (a .srcnulls)) (a .c)
+    (ap isAccepted (sym (c .before .before .before .before .before .before .before .before .before .before .before .before .before .before .before
+    .before .before .before .before .before .before .before .before .before .before .before .before .before .before .before .why-column .ensures))
+    ∙ (sym (c .before .before .before .before .before .before .before .before .before .before .before .before .before .before .before .before
+    .before .before .before .before .before .before .before .before .before .before .before .before .before .is-accepted .ensures)
+    ∙ not-false _ (c .before .before .before .before .before .before .before .before .before .before .before .before .before .before .before
+    .before .before .before .before .before .before .before .before .before .before .before .before .before .if1 .left))) in
     let f = k .fit in
-    let b = ap (λ (z : State). z .blocks) (b20 .close .ensures) in
-    let r = ap (λ (z : State). z .rows) (b20 .close .ensures) in
+    let b = ap (λ (z : State). z .blocks) (c .before .before .before .before .before .before .before .before .before .before .before .before .before
+    .before .before .before .before .before .before .before .close .ensures) in
+    let r = ap (λ (z : State). z .rows) (c .before .before .before .before .before .before .before .before .before .before .before .before .before
+    .before .before .before .before .before .before .before .close .ensures) in
     (omega (arith, r, k .rows), omega (arith, b, k .limit))
 
 same-length-6 : tie.Need-same-length-6

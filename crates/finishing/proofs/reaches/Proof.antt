@@ -19,10 +19,8 @@ all-blocks-requires : tie.Need-all-blocks-requires
 all-blocks-requires c κs = search needs
 
 returns-2 : tie.Need-returns-2
-returns-2 c =
-    let b9 = c .before .before .before .before .before .before .before .before .before in
-    row-past _ _ _ _ _ _ (b9 .pre .0) _ (c .before .before .before .before .view-len .ensures .0) (omega arith) _
-    (c .before .before .view-block .ensures .0) (omega arith)
+returns-2 c = row-past _ _ _ _ _ _ (c .before .before .before .before .before .before .before .before .before .pre .0) _
+    (c .before .before .before .before .view-len .ensures .0) (omega arith) _ (c .before .before .view-block .ensures .0) (omega arith)
 
 at-or-requires : tie.Need-at-or-requires
 at-or-requires c κs = omega (arith, all-bounds (c .before .before .before .before .before .before .before .before .before .args .s))
@@ -34,9 +32,8 @@ in-data-requires : tie.Need-in-data-requires
 in-data-requires c κs = search needs
 
 returns-3 : tie.Need-returns-3
-returns-3 c =
-    let b8 = c .before .before .before .before .before .before .before .before in let b13 = b8 .before .before .before .before .before in
-    row-outside _ _ _ _ _ _ (b13 .pre .0) _ (b8 .view-len .ensures .0) (omega arith) _
+returns-3 c = row-outside _ _ _ _ _ _ (c .before .before .before .before .before .before .before .before .before .before .before .before .before .pre
+    .0) _ (c .before .before .before .before .before .before .before .before .view-len .ensures .0) (omega arith) _
     (c .before .before .before .before .before .before .view-block .ensures .0) _ _ (omega arith) (c .before .before .before .at-or .ensures)
     (c .before .before .at-or2 .ensures) _ (c .before .in-data .ensures) (not-true _ (c .if3 .taken))
 
@@ -47,9 +44,8 @@ add-result : tie.Need-add-result
 add-result c = search needs
 
 returns-4 : tie.Need-returns-4
-returns-4 c =
-    let b9 = c .before .before .before .before .before .before .before .before .before in let b14 = b9 .before .before .before .before .before in
-    row-last _ _ _ _ _ _ (b14 .pre .0) _ (b9 .view-len .ensures .0) (omega arith) _
+returns-4 c = row-last _ _ _ _ _ _ (c .before .before .before .before .before .before .before .before .before .before .before .before .before .before
+    .pre .0) _ (c .before .before .before .before .before .before .before .before .before .view-len .ensures .0) (omega arith) _
     (c .before .before .before .before .before .before .before .view-block .ensures .0) _ _ (omega arith)
     (c .before .before .before .before .at-or .ensures) (c .before .before .before .at-or2 .ensures) _ (c .before .before .in-data .ensures) _
     (not-false _ (c .before .if3 .left)) (c .view-offset .ensures .0)

@@ -26,29 +26,32 @@ all-blocks-requires : tie.Need-all-blocks-requires
 all-blocks-requires c κs = search needs
 
 returns-3 : tie.Need-returns-3
-returns-3 c =
-    let b12 = c .before .before .before .before .before .before .before .before .before .before .before .before in
-    shows-past _ _ _ _ _ _ _ (b12 .pre .0) _ _ (c .before .before .before .before .before .if1 .left)
-    (c .before .before .before .before .view-len .ensures .0) (c .before .before .view-block .ensures .0) (omega (arith, b12 .pre .1)) (omega arith)
+returns-3 c = shows-past _ _ _ _ _ _ _ (c .before .before .before .before .before .before .before .before .before .before .before .before .pre .0) _ _
+    (c .before .before .before .before .before .if1 .left) (c .before .before .before .before .view-len .ensures .0)
+    (c .before .before .view-block .ensures .0)
+    (omega (arith, c .before .before .before .before .before .before .before .before .before .before .before .before .pre .1)) (omega arith)
 
 at-or-requires : tie.Need-at-or-requires
 at-or-requires c κs = omega (arith, all-bounds (c .before .before .before .before .before .before .before .before .before .before .before .before .args .s))
 
 at-or-requires-2 : tie.Need-at-or-requires-2
-at-or-requires-2 c κs =
-    let b13 = c .before .before .before .before .before .before .before .before .before .before .before .before .before in
-    omega (arith, all-bounds (b13 .args .s))
+at-or-requires-2 c κs = omega
+    (arith, all-bounds (c .before .before .before .before .before .before .before .before .before .before .before .before .before .args .s))
 
 in-data-requires : tie.Need-in-data-requires
 in-data-requires c κs = search needs
 
 returns-4 : tie.Need-returns-4
-returns-4 c =
-    let b8 = c .before .before .before .before .before .before .before .before in let b9 = b8 .before in
-    let b16 = b9 .before .before .before .before .before .before .before in
-    shows-no-data _ _ _ _ _ _ _ (b16 .pre .0) _ _ (b9 .if1 .left) (b8 .view-len .ensures .0)
-    (c .before .before .before .before .before .before .view-block .ensures .0) (omega (arith, b16 .pre .1)) _ _ (omega arith)
-    (c .before .before .before .at-or .ensures) (c .before .before .at-or2 .ensures) _ (c .before .in-data .ensures) (not-true _ (c .if4 .taken))
+returns-4 c = shows-no-data _ _ _ _ _ _ _ (c .before .before .before .before .before .before .before .before .before .before .before .before .before
+    .before .before .before .pre .0) _ _ (c .before .before .before .before .before .before .before .before .before .if1 .left)
+    (c .before .before .before .before .before .before .before .before .view-len .ensures .0)
+    (c .before .before .before .before .before .before .view-block .ensures .0)
+    (omega (
+      arith,
+      c .before .before .before .before .before .before .before .before .before .before .before .before .before .before .before .before
+          .pre .1,
+    )) _ _ (omega arith) (c .before .before .before .at-or .ensures) (c .before .before .at-or2 .ensures) _ (c .before .in-data .ensures)
+    (not-true _ (c .if4 .taken))
 
 view-offset-requires : tie.Need-view-offset-requires
 view-offset-requires c κs = search needs
@@ -57,12 +60,18 @@ add-if5 : tie.Need-add-if5
 add-if5 c = search needs
 
 returns-5 : tie.Need-returns-5
-returns-5 c =
-    let b8 = c .before .before .before .before .before .before .before .before in let b10 = b8 .before .before in let b11 = b10 .before in
-    let b18 = b11 .before .before .before .before .before .before .before in
-    shows-over _ _ _ _ _ _ _ (b18 .pre .0) _ _ (b11 .if1 .left) (b10 .view-len .ensures .0) (b8 .view-block .ensures .0) (omega (arith, b18 .pre .1))
-    _ _ (omega arith) (c .before .before .before .before .before .at-or .ensures) (c .before .before .before .before .at-or2 .ensures) _
-    (c .before .before .before .in-data .ensures) (not-false _ (c .before .before .if4 .left)) _ (c .before .view-offset .ensures .0) (c .if5 .taken)
+returns-5 c = shows-over _ _ _ _ _ _ _ (c .before .before .before .before .before .before .before .before .before .before .before .before .before
+    .before .before .before .before .before .pre .0) _ _
+    (c .before .before .before .before .before .before .before .before .before .before .before .if1 .left)
+    (c .before .before .before .before .before .before .before .before .before .before .view-len .ensures .0)
+    (c .before .before .before .before .before .before .before .before .view-block .ensures .0)
+    (omega (
+      arith,
+      c .before .before .before .before .before .before .before .before .before .before .before .before .before .before .before .before
+          .before .before .pre .1,
+    )) _ _ (omega arith) (c .before .before .before .before .before .at-or .ensures)
+    (c .before .before .before .before .at-or2 .ensures) _ (c .before .before .before .in-data .ensures) (not-false _ (c .before .before .if4 .left))
+    _ (c .before .view-offset .ensures .0) (c .if5 .taken)
 
 add-a : tie.Need-add-a
 add-a c = omega (arith, byte-limit-small, in-data-gives _ _ _ (sym (c .before .before .before .in-data .ensures) ∙ not-false _ (c .before .before .if4 .left)))
@@ -83,11 +92,16 @@ same-requires : tie.Need-same-requires
 same-requires c κs = search needs
 
 returns-6 : tie.Need-returns-6
-returns-6 c =
-    let b10 = c .before .before .before .before .before .before .before .before .before .before in let b12 = b10 .before .before in
-    let b13 = b12 .before in let b20 = b13 .before .before .before .before .before .before .before in
-    shows-here _ _ _ _ _ _ _ (b20 .pre .0) _ _ (b13 .if1 .left) (b12 .view-len .ensures .0) (b10 .view-block .ensures .0) (omega (arith, b20 .pre .1))
-    _ _ (omega arith) (c .before .before .before .before .before .before .before .at-or .ensures)
+returns-6 c = shows-here _ _ _ _ _ _ _ (c .before .before .before .before .before .before .before .before .before .before .before .before .before
+    .before .before .before .before .before .before .before .pre .0) _ _
+    (c .before .before .before .before .before .before .before .before .before .before .before .before .before .if1 .left)
+    (c .before .before .before .before .before .before .before .before .before .before .before .before .view-len .ensures .0)
+    (c .before .before .before .before .before .before .before .before .before .before .view-block .ensures .0)
+    (omega (
+      arith,
+      c .before .before .before .before .before .before .before .before .before .before .before .before .before .before .before .before
+          .before .before .before .before .pre .1,
+    )) _ _ (omega arith) (c .before .before .before .before .before .before .before .at-or .ensures)
     (c .before .before .before .before .before .before .at-or2 .ensures) _ (c .before .before .before .before .before .in-data .ensures)
     (not-false _ (c .before .before .before .before .if4 .left)) _ (c .before .before .before .view-offset .ensures .0) _
     (c .before .before .if5 .left) (c .same .ensures)

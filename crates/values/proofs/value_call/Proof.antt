@@ -105,16 +105,26 @@ returns-3 c =
 
 add-copy-rows : tie.Need-add-copy-rows
 add-copy-rows c =
-    let b23 = c .before .before .before .before .before .before .before .before .before .before .before .before .before .before .before .before
-    .before .before .before .before .before .before .before in
-    let b24 = b23 .before in let b25 = b24 .before in let b26 = b25 .before in let b27 = b26 .before in let b28 = b27 .before in
-    let b29 = b28 .before in let b37 = b29 .before .before .before .before .before .before .before .before in
-    let a = b37 .args in
-    let w = (b26 .why-first .ensures ∙ first-is (a .s) (now (a .views)) (now (a .bytes)) (now (a .starts)) (now (a .lens)) (now (a .nulls))
-    (now (a .places)) _ _ _ (b29 .rows-room .ensures) (b28 .blocks-room .ensures) (b27 .bytes-room .ensures) (now (a .x)) (a .n)) in
-    let y = ap isAccepted (sym w) ∙ (sym (b25 .is-accepted .ensures) ∙ not-false _ (b24 .if1 .left)) in
+    let a = c .before .before .before .before .before .before .before .before .before .before .before .before .before .before .before .before .before
+    .before .before .before .before .before .before .before .before .before .before .before .before .before .before .before .before .before
+    .before .before .before .args in
+    let w = (c .before .before .before .before .before .before .before .before .before .before .before .before .before .before .before .before .before
+    .before .before .before .before .before .before .before .before .before .why-first .ensures ∙ first-is (a .s) (now (a .views))
+    (now (a .bytes)) (now (a .starts)) (now (a .lens)) (now (a .nulls)) (now (a .places)) _ _ _
+    (c .before .before .before .before .before .before .before .before .before .before .before .before .before .before .before .before .before
+    .before .before .before .before .before .before .before .before .before .before .before .before .rows-room .ensures)
+    (c .before .before .before .before .before .before .before .before .before .before .before .before .before .before .before .before .before
+    .before .before .before .before .before .before .before .before .before .before .before .blocks-room .ensures)
+    (c .before .before .before .before .before .before .before .before .before .before .before .before .before .before .before .before .before
+    .before .before .before .before .before .before .before .before .before .before .bytes-room .ensures) (now (a .x)) (a .n)) in
+    let y = ap isAccepted (sym w)
+    ∙ (sym (c .before .before .before .before .before .before .before .before .before .before .before .before .before .before .before .before
+    .before .before .before .before .before .before .before .before .before .is-accepted .ensures)
+    ∙ not-false _ (c .before .before .before .before .before .before .before .before .before .before .before .before .before .before .before
+    .before .before .before .before .before .before .before .before .before .if1 .left)) in
     let j = judged (held (a .s) (now (a .views)) (now (a .bytes)) (now (a .starts)) (now (a .lens)) (now (a .nulls)) (now (a .places))) (now (a .x))
-    (a .n) y (b23 .if2 .left) in
+    (a .n) y (c .before .before .before .before .before .before .before .before .before .before .before .before .before .before .before .before
+    .before .before .before .before .before .before .before .if2 .left) in
     let m = room-many (a .s) (now (a .views)) (now (a .bytes)) (now (a .starts)) (now (a .lens)) (now (a .nulls)) (now (a .places)) (a .n) (j .1) in
     omega (arith, m, row-limit-small)
 
@@ -123,32 +133,62 @@ sub-copy-rows c = search needs
 
 copy-rows-requires : tie.Need-copy-rows-requires
 copy-rows-requires c κs =
-    let b16 = c .before .before .before .before .before .before .before .before .before .before .before .before .before .before .before .before in
-    let b23 = b16 .before .before .before .before .before .before .before in let b24 = b23 .before in let b25 = b24 .before in
-    let b26 = b25 .before in let b27 = b26 .before in let b28 = b27 .before in let b29 = b28 .before in
-    let b37 = b29 .before .before .before .before .before .before .before .before in
-    let a = b37 .args in
-    let w = (b26 .why-first .ensures ∙ first-is (a .s) (now (a .views)) (now (a .bytes)) (now (a .starts)) (now (a .lens)) (now (a .nulls))
-    (now (a .places)) _ _ _ (b29 .rows-room .ensures) (b28 .blocks-room .ensures) (b27 .bytes-room .ensures) (now (a .x)) (a .n)) in
-    let y = ap isAccepted (sym w) ∙ (sym (b25 .is-accepted .ensures) ∙ not-false _ (b24 .if1 .left)) in
+    let a = c .before .before .before .before .before .before .before .before .before .before .before .before .before .before .before .before .before
+    .before .before .before .before .before .before .before .before .before .before .before .before .before .before .before .before .before
+    .before .before .before .args in
+    let w = (c .before .before .before .before .before .before .before .before .before .before .before .before .before .before .before .before .before
+    .before .before .before .before .before .before .before .before .before .why-first .ensures ∙ first-is (a .s) (now (a .views))
+    (now (a .bytes)) (now (a .starts)) (now (a .lens)) (now (a .nulls)) (now (a .places)) _ _ _
+    (c .before .before .before .before .before .before .before .before .before .before .before .before .before .before .before .before .before
+    .before .before .before .before .before .before .before .before .before .before .before .before .rows-room .ensures)
+    (c .before .before .before .before .before .before .before .before .before .before .before .before .before .before .before .before .before
+    .before .before .before .before .before .before .before .before .before .before .before .blocks-room .ensures)
+    (c .before .before .before .before .before .before .before .before .before .before .before .before .before .before .before .before .before
+    .before .before .before .before .before .before .before .before .before .before .bytes-room .ensures) (now (a .x)) (a .n)) in
+    let y = ap isAccepted (sym w)
+    ∙ (sym (c .before .before .before .before .before .before .before .before .before .before .before .before .before .before .before .before
+    .before .before .before .before .before .before .before .before .before .is-accepted .ensures)
+    ∙ not-false _ (c .before .before .before .before .before .before .before .before .before .before .before .before .before .before .before
+    .before .before .before .before .before .before .before .before .before .if1 .left)) in
     let j = judged (held (a .s) (now (a .views)) (now (a .bytes)) (now (a .starts)) (now (a .lens)) (now (a .nulls)) (now (a .places))) (now (a .x))
-    (a .n) y (b23 .if2 .left) in
+    (a .n) y (c .before .before .before .before .before .before .before .before .before .before .before .before .before .before .before .before
+    .before .before .before .before .before .before .before .if2 .left) in
     let m = room-many (a .s) (now (a .views)) (now (a .bytes)) (now (a .starts)) (now (a .lens)) (now (a .nulls)) (now (a .places)) (a .n) (j .1) in
-    let e : length (b16 .add-one .last .1 .0) ≡ length (now (a .views)) = search needs in
-    (omega arith, omega (arith, m, e, b23 .if2 .left))
+    let e : length (c .before .before .before .before .before .before .before .before .before .before .before .before .before .before .before .before
+    .add-one .last .1 .0) ≡ length (now (a .views)) = search needs in (
+      omega arith,
+      omega (
+        arith,
+        m,
+        e,
+        c .before .before .before .before .before .before .before .before .before .before .before .before .before
+            .before .before .before .before .before .before .before .before .before .before .if2 .left,
+      ),
+    )
 
 add-put-run : tie.Need-add-put-run
 add-put-run c =
-    let b27 = c .before .before .before .before .before .before .before .before .before .before .before .before .before .before .before .before
-    .before .before .before .before .before .before .before .before .before .before .before in
-    let b28 = b27 .before in let b29 = b28 .before in let b30 = b29 .before in let b31 = b30 .before in let b32 = b31 .before in
-    let b33 = b32 .before in let b41 = b33 .before .before .before .before .before .before .before .before in
-    let a = b41 .args in
-    let w = (b30 .why-first .ensures ∙ first-is (a .s) (now (a .views)) (now (a .bytes)) (now (a .starts)) (now (a .lens)) (now (a .nulls))
-    (now (a .places)) _ _ _ (b33 .rows-room .ensures) (b32 .blocks-room .ensures) (b31 .bytes-room .ensures) (now (a .x)) (a .n)) in
-    let y = ap isAccepted (sym w) ∙ (sym (b29 .is-accepted .ensures) ∙ not-false _ (b28 .if1 .left)) in
+    let a = c .before .before .before .before .before .before .before .before .before .before .before .before .before .before .before .before .before
+    .before .before .before .before .before .before .before .before .before .before .before .before .before .before .before .before .before
+    .before .before .before .before .before .before .before .args in
+    let w = (c .before .before .before .before .before .before .before .before .before .before .before .before .before .before .before .before .before
+    .before .before .before .before .before .before .before .before .before .before .before .before .before .why-first .ensures
+    ∙ first-is (a .s) (now (a .views)) (now (a .bytes)) (now (a .starts)) (now (a .lens)) (now (a .nulls)) (now (a .places)) _ _ _
+    (c .before .before .before .before .before .before .before .before .before .before .before .before .before .before .before .before .before
+    .before .before .before .before .before .before .before .before .before .before .before .before .before .before .before .before .rows-room
+    .ensures) (c .before .before .before .before .before .before .before .before .before .before .before .before .before .before .before .before
+    .before .before .before .before .before .before .before .before .before .before .before .before .before .before .before .before .blocks-room
+    .ensures) (c .before .before .before .before .before .before .before .before .before .before .before .before .before .before .before .before
+    .before .before .before .before .before .before .before .before .before .before .before .before .before .before .before .bytes-room .ensures)
+    (now (a .x)) (a .n)) in
+    let y = ap isAccepted (sym w)
+    ∙ (sym (c .before .before .before .before .before .before .before .before .before .before .before .before .before .before .before .before
+    .before .before .before .before .before .before .before .before .before .before .before .before .before .is-accepted .ensures)
+    ∙ not-false _ (c .before .before .before .before .before .before .before .before .before .before .before .before .before .before .before
+    .before .before .before .before .before .before .before .before .before .before .before .before .before .if1 .left)) in
     let j = judged (held (a .s) (now (a .views)) (now (a .bytes)) (now (a .starts)) (now (a .lens)) (now (a .nulls)) (now (a .places))) (now (a .x))
-    (a .n) y (b27 .if2 .left) in
+    (a .n) y (c .before .before .before .before .before .before .before .before .before .before .before .before .before .before .before .before
+    .before .before .before .before .before .before .before .before .before .before .before .if2 .left) in
     let m = room-many (a .s) (now (a .views)) (now (a .bytes)) (now (a .starts)) (now (a .lens)) (now (a .nulls)) (now (a .places)) (a .n) (j .1) in
     omega (arith, m, row-limit-small)
 
@@ -157,42 +197,83 @@ sub-put-run c = search needs
 
 put-run-requires : tie.Need-put-run-requires
 put-run-requires c κs =
-    let b20 = c .before .before .before .before .before .before .before .before .before .before .before .before .before .before .before .before
-    .before .before .before .before in
-    let b27 = b20 .before .before .before .before .before .before .before in let b28 = b27 .before in let b29 = b28 .before in
-    let b30 = b29 .before in let b31 = b30 .before in let b32 = b31 .before in let b33 = b32 .before in
-    let b41 = b33 .before .before .before .before .before .before .before .before in
-    let a = b41 .args in
-    let w = (b30 .why-first .ensures ∙ first-is (a .s) (now (a .views)) (now (a .bytes)) (now (a .starts)) (now (a .lens)) (now (a .nulls))
-    (now (a .places)) _ _ _ (b33 .rows-room .ensures) (b32 .blocks-room .ensures) (b31 .bytes-room .ensures) (now (a .x)) (a .n)) in
-    let y = ap isAccepted (sym w) ∙ (sym (b29 .is-accepted .ensures) ∙ not-false _ (b28 .if1 .left)) in
+    let a = c .before .before .before .before .before .before .before .before .before .before .before .before .before .before .before .before .before
+    .before .before .before .before .before .before .before .before .before .before .before .before .before .before .before .before .before
+    .before .before .before .before .before .before .before .args in
+    let w = (c .before .before .before .before .before .before .before .before .before .before .before .before .before .before .before .before .before
+    .before .before .before .before .before .before .before .before .before .before .before .before .before .why-first .ensures
+    ∙ first-is (a .s) (now (a .views)) (now (a .bytes)) (now (a .starts)) (now (a .lens)) (now (a .nulls)) (now (a .places)) _ _ _
+    (c .before .before .before .before .before .before .before .before .before .before .before .before .before .before .before .before .before
+    .before .before .before .before .before .before .before .before .before .before .before .before .before .before .before .before .rows-room
+    .ensures) (c .before .before .before .before .before .before .before .before .before .before .before .before .before .before .before .before
+    .before .before .before .before .before .before .before .before .before .before .before .before .before .before .before .before .blocks-room
+    .ensures) (c .before .before .before .before .before .before .before .before .before .before .before .before .before .before .before .before
+    .before .before .before .before .before .before .before .before .before .before .before .before .before .before .before .bytes-room .ensures)
+    (now (a .x)) (a .n)) in
+    let y = ap isAccepted (sym w)
+    ∙ (sym (c .before .before .before .before .before .before .before .before .before .before .before .before .before .before .before .before
+    .before .before .before .before .before .before .before .before .before .before .before .before .before .is-accepted .ensures)
+    ∙ not-false _ (c .before .before .before .before .before .before .before .before .before .before .before .before .before .before .before
+    .before .before .before .before .before .before .before .before .before .before .before .before .before .if1 .left)) in
     let j = judged (held (a .s) (now (a .views)) (now (a .bytes)) (now (a .starts)) (now (a .lens)) (now (a .nulls)) (now (a .places))) (now (a .x))
-    (a .n) y (b27 .if2 .left) in
+    (a .n) y (c .before .before .before .before .before .before .before .before .before .before .before .before .before .before .before .before
+    .before .before .before .before .before .before .before .before .before .before .before .if2 .left) in
     let m = room-many (a .s) (now (a .views)) (now (a .bytes)) (now (a .starts)) (now (a .lens)) (now (a .nulls)) (now (a .places)) (a .n) (j .1) in
-    let e : length (b20 .add-one .last .1 .1 .1 .1 .1 .0) ≡ length (now (a .nulls)) = search needs in
-    (omega (arith, m, e, b27 .if2 .left), omega (arith, m, row-limit-small))
+    let e : length (c .before .before .before .before .before .before .before .before .before .before .before .before .before .before .before .before
+    .before .before .before .before .add-one .last .1 .1 .1 .1 .1 .0) ≡ length (now (a .nulls)) = search needs in (
+      omega (
+        arith,
+        m,
+        e,
+        c .before .before .before .before .before .before .before .before .before .before .before .before .before .before .before
+            .before .before .before .before .before .before .before .before .before .before .before .before .if2 .left,
+      ),
+      omega (arith, m, row-limit-small),
+    )
 
 sub-rows-more : tie.Need-sub-rows-more
 sub-rows-more c = search needs
 
 rows-more-requires : tie.Need-rows-more-requires
 rows-more-requires c κs =
-    let b8 = c .before .before .before .before .before .before .before .before in let b9 = b8 .before in
-    let b23 = b9 .before .before .before .before .before .before .before .before .before .before .before .before .before .before in
-    let b30 = b23 .before .before .before .before .before .before .before in let b31 = b30 .before in let b32 = b31 .before in
-    let b33 = b32 .before in let b34 = b33 .before in let b35 = b34 .before in let b36 = b35 .before in
-    let b44 = b36 .before .before .before .before .before .before .before .before in
-    let a = b44 .args in
-    let w = (b33 .why-first .ensures ∙ first-is (a .s) (now (a .views)) (now (a .bytes)) (now (a .starts)) (now (a .lens)) (now (a .nulls))
-    (now (a .places)) _ _ _ (b36 .rows-room .ensures) (b35 .blocks-room .ensures) (b34 .bytes-room .ensures) (now (a .x)) (a .n)) in
-    let y = ap isAccepted (sym w) ∙ (sym (b32 .is-accepted .ensures) ∙ not-false _ (b31 .if1 .left)) in
+    let a = c .before .before .before .before .before .before .before .before .before .before .before .before .before .before .before .before .before
+    .before .before .before .before .before .before .before .before .before .before .before .before .before .before .before .before .before
+    .before .before .before .before .before .before .before .before .before .before .args in
+    let w = (c .before .before .before .before .before .before .before .before .before .before .before .before .before .before .before .before .before
+    .before .before .before .before .before .before .before .before .before .before .before .before .before .before .before .before .why-first
+    .ensures ∙ first-is (a .s) (now (a .views)) (now (a .bytes)) (now (a .starts)) (now (a .lens)) (now (a .nulls)) (now (a .places)) _ _ _
+    (c .before .before .before .before .before .before .before .before .before .before .before .before .before .before .before .before .before
+    .before .before .before .before .before .before .before .before .before .before .before .before .before .before .before .before .before
+    .before .before .rows-room .ensures)
+    (c .before .before .before .before .before .before .before .before .before .before .before .before .before .before .before .before .before
+    .before .before .before .before .before .before .before .before .before .before .before .before .before .before .before .before .before
+    .before .blocks-room .ensures) (c .before .before .before .before .before .before .before .before .before .before .before .before .before
+    .before .before .before .before .before .before .before .before .before .before .before .before .before .before .before .before .before
+    .before .before .before .before .bytes-room .ensures) (now (a .x)) (a .n)) in
+    let y = ap isAccepted (sym w)
+    ∙ (sym (c .before .before .before .before .before .before .before .before .before .before .before .before .before .before .before .before
+    .before .before .before .before .before .before .before .before .before .before .before .before .before .before .before .before .is-accepted
+    .ensures) ∙ not-false _ (c .before .before .before .before .before .before .before .before .before .before .before .before .before .before
+    .before .before .before .before .before .before .before .before .before .before .before .before .before .before .before .before .before .if1 .left)) in
     let j = judged (held (a .s) (now (a .views)) (now (a .bytes)) (now (a .starts)) (now (a .lens)) (now (a .nulls)) (now (a .places))) (now (a .x))
-    (a .n) y (b30 .if2 .left) in
+    (a .n) y (c .before .before .before .before .before .before .before .before .before .before .before .before .before .before .before .before
+    .before .before .before .before .before .before .before .before .before .before .before .before .before .before .if2 .left) in
     let m = room-many (a .s) (now (a .views)) (now (a .bytes)) (now (a .starts)) (now (a .lens)) (now (a .nulls)) (now (a .places)) (a .n) (j .1) in
     let e = does-rows (a .s) (now (a .views)) (now (a .bytes)) (now (a .starts)) (now (a .lens)) (now (a .nulls)) (now (a .places)) (now (a .x))
     (a .n) (value-on (held (a .s) (now (a .views)) (now (a .bytes)) (now (a .starts)) (now (a .lens)) (now (a .nulls)) (now (a .places)))
-    (now (a .x)) (a .n) y (b30 .if2 .left)) (b23 .add-one .ensures) (sym (b9 .is-accepted2 .ensures) ∙ not-false _ (b8 .if3 .left)) in
-    omega (arith, m, e, b30 .if2 .left)
+    (now (a .x)) (a .n) y (c .before .before .before .before .before .before .before .before .before .before .before .before .before .before
+    .before .before .before .before .before .before .before .before .before .before .before .before .before .before .before .before .if2 .left))
+    (c .before .before .before .before .before .before .before .before .before .before .before .before .before .before .before .before .before
+    .before .before .before .before .before .before .add-one .ensures)
+    (sym (c .before .before .before .before .before .before .before .before .before .is-accepted2 .ensures)
+    ∙ not-false _ (c .before .before .before .before .before .before .before .before .if3 .left)) in
+    omega (
+      arith,
+      m,
+      e,
+      c .before .before .before .before .before .before .before .before .before .before .before .before .before .before .before
+          .before .before .before .before .before .before .before .before .before .before .before .before .before .before .before .if2 .left,
+    )
 
 same-length-7 : tie.Need-same-length-7
 same-length-7 c = search needs

@@ -101,6 +101,7 @@ impl Lent {
 }
 
 /// A call with a column's slices, or two columns': what comes before them and what comes after them in brackets.
+#[allow(unused_macros)]
 macro_rules! lent {
     ($call:ident($($before:expr),*), $l:expr, ($($after:expr),*) $(, $r:expr, ($($last:expr),*))?) => {
         unsafe {
@@ -119,4 +120,5 @@ macro_rules! lent {
     };
 }
 
+#[allow(unused_imports)]
 pub(crate) use lent;

@@ -13,6 +13,19 @@ pub fn seconds<T>(times: usize, work: &mut dyn FnMut() -> T) -> f64 {
     from.elapsed().as_secs_f64() / times as f64
 }
 
+/// Has the allocator keep what is freed (glibc), so that after the first round no side asks the system for pages inside a time.
+fn keep_memory() {
+    const M_TRIM_THRESHOLD: i32 = -1;
+    const M_MMAP_THRESHOLD: i32 = -3;
+    unsafe extern "C" {
+        fn mallopt(param: i32, value: i32) -> i32;
+    }
+    unsafe {
+        mallopt(M_TRIM_THRESHOLD, 1 << 30);
+        mallopt(M_MMAP_THRESHOLD, 1 << 30);
+    }
+}
+
 /// What is asked for: how many rounds, the works whose name has this in it, one side alone.
 pub struct Ask {
     rounds: usize,
@@ -25,6 +38,7 @@ impl Ask {
     pub fn new(rounds: usize) -> Self {
         let args: Vec<String> = std::env::args().skip(1).collect();
         let number = |k: usize| args.get(k).map(|a| a.parse().expect("speed [ROUNDS [NAME [SIDE]]]"));
+        keep_memory();
         Ask { rounds: number(0).unwrap_or(rounds), name: args.get(1).cloned(), side: number(2) }
     }
 

@@ -23,17 +23,6 @@ unsafe extern "C" {
         views: *mut u8, views_len: usize, bytes: *mut u8, bytes_len: usize, starts: *mut usize, starts_len: usize, lens: *mut usize, lens_len: usize,
         nulls: *mut u8, nulls_len: usize, places: *mut u32, places_len: usize, all: *const u8, all_len: usize, ends: *const usize, ends_len: usize, merge: usize,
     ) -> usize;
-    fn mallopt(param: i32, value: i32) -> i32;
-}
-
-/// Has the allocator keep what is freed, so that no page is asked of the system, and touched first, inside a time (glibc).
-fn keep_memory() {
-    const M_TRIM_THRESHOLD: i32 = -1;
-    const M_MMAP_THRESHOLD: i32 = -3;
-    unsafe {
-        mallopt(M_TRIM_THRESHOLD, 1 << 30);
-        mallopt(M_MMAP_THRESHOLD, 1 << 30);
-    }
 }
 
 fn buffers(rows: usize, bytes: usize, places: usize) -> Buffers {
@@ -193,12 +182,12 @@ fn columns(ask: &Ask) {
     let b = RefCell::new(buffers(20_000, 20 * v.all.len(), 0));
     ratio(ask, "a column of 1,000 rows, 20 times", 20_000, Jobs {
         before: || started(&b),
-        ours: |mut s| {
+        ours: |mut s: Numbers| {
             (0..20).for_each(|_| assert_eq!(b.borrow_mut().append_column(&mut s, &source).number, 0));
             s
         },
         fresh: || plain(20_000, false),
-        theirs: |mut o| {
+        theirs: |mut o: Original| {
             (0..20).for_each(|_| o.append_array(&array));
             o
         },
@@ -210,12 +199,12 @@ fn n_times(ask: &Ask) {
         let b = RefCell::new(buffers(20_000, 400_000, 0));
         ratio(ask, name, 20_000, Jobs {
             before: || started(&b),
-            ours: |mut s| {
+            ours: |mut s: Numbers| {
                 (0..20_000 / n).for_each(|_| assert_eq!(b.borrow_mut().append_values(&mut s, &[7; 20], n), 0));
                 s
             },
             fresh: || builder(20_000, 400_000, false),
-            theirs: |mut o| {
+            theirs: |mut o: Original| {
                 (0..20_000 / n).for_each(|_| o.try_append_value_n([7u8; 20], n).unwrap());
                 o
             },
@@ -232,18 +221,17 @@ fn finishes(ask: &Ask) {
             v.each().for_each(|x| assert_eq!(b.borrow_mut().append_value(&mut s, x), 0));
             s
         },
-        ours: |mut s| {
+        ours: |mut s: Numbers| {
             let mut column = [0; 5];
             b.borrow_mut().finish(&mut s, &mut column);
             column
         },
         fresh: || original(&v, plain(1_000, false)),
-        theirs: |mut o| (o.finish(), o),
+        theirs: |mut o: Original| (o.finish(), o),
     });
 }
 
 fn main() {
-    keep_memory();
     let ask = Ask::new(ROUNDS);
     println!("{:<60} {:>10} {:>10}   ours / original", "", "ours", "original");
     all_values(&ask);

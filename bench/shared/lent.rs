@@ -1,4 +1,5 @@
-//! A module of each driver that lends columns. A column as it is lent to the static libraries: a slice crosses as its pointer and its count of elements, a column as the pointer to its five numbers.
+//! A module of each driver that lends columns. A column as it is lent to the static libraries: a slice crosses as its pointer and its count of elements,
+//! a column as the pointer to its five numbers.
 
 use arrow_array::types::ByteViewType;
 use arrow_array::{Array, GenericByteViewArray};
@@ -96,7 +97,8 @@ impl Lent {
 
     /// Zeroed room for this many rows, bytes and blocks.
     pub fn room(rows: usize, bytes: usize, blocks: usize) -> Self {
-        Lent { views: vec![0; 16 * rows], bytes: vec![0; bytes], starts: vec![0; blocks], lens: vec![0; blocks], nulls: vec![0; rows.div_ceil(8)], column: [0; 5] }
+        let (views, nulls) = (vec![0; 16 * rows], vec![0; rows.div_ceil(8)]);
+        Lent { views, bytes: vec![0; bytes], starts: vec![0; blocks], lens: vec![0; blocks], nulls, column: [0; 5] }
     }
 }
 

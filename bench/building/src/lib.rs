@@ -38,7 +38,10 @@ calls! {
     tambuyeel_append_null() -> u64;
     tambuyeel_append_block(x: *const u8, n: usize) -> Counted;
     tambuyeel_append_view(block: u32, offset: u32, n: u32) -> u64;
-    tambuyeel_append_column(v: *const u8, vn: usize, b: *const u8, bn: usize, s: *const usize, sn: usize, l: *const usize, ln: usize, m: *const u8, mn: usize, column: *const [usize; 5]) -> Told;
+    tambuyeel_append_column(
+        v: *const u8, vn: usize, b: *const u8, bn: usize, s: *const usize, sn: usize, l: *const usize, ln: usize, m: *const u8, mn: usize,
+        column: *const [usize; 5]
+    ) -> Told;
     tambuyeel_get_value(row: usize) -> Place;
     tambuyeel_finish(column: *mut [usize; 5]) -> u64;
     tambuyeel_finish_by_copy(column: *mut [usize; 5]) -> u64;

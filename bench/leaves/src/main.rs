@@ -1,5 +1,6 @@
 //! Times the proved leaves against Rust's std: each side does the same batch on the same input, rounds alternate, and a row gives the
-//! ratio of the best times and the median of the ratios of neighbouring rounds (below 1: ours is faster). Every batch's answer is held against std's before it is timed.
+//! ratio of the best times and the median of the ratios of neighbouring rounds (below 1: ours is faster). Every batch's answer is held against std's
+//! before it is timed.
 //!
 //! `bench/run` builds the static library and runs this.
 
@@ -88,7 +89,8 @@ mod std_side {
 
 const ROUNDS: usize = 401;
 
-/// Prints the row: the ratio of the best times, the median of the ratios of neighbouring rounds, and the best times. Answers whether the first is within the target.
+/// Prints the row: the ratio of the best times, the median of the ratios of neighbouring rounds, and the best times. Answers whether the first is within
+/// the target.
 fn row<T>(ask: &Ask, name: &str, target: f64, items: usize, ours: &mut dyn FnMut() -> T, theirs: &mut dyn FnMut() -> T) -> bool {
     if !ask.takes(name) {
         return true;

@@ -1,4 +1,5 @@
-//! Times beside the original's builder on the same values: batches inside the library, call by call, and through the Rust binding; ours / original, best and median.
+//! Times beside the original's builder on the same values: batches inside the library, call by call, and through the Rust binding; ours / original,
+//! best and median.
 //!
 //! speed [ROUNDS [NAME [SIDE]]]. Every column is compared with the original's before it is timed. Both sides have their memory before the time begins: the
 //! original has capacity for all rows and one block for all bytes, which a first value of 13 bytes has it allocate, and memory that was freed is used again;
@@ -21,7 +22,8 @@ type Original = GenericByteViewBuilder<BinaryViewType>;
 unsafe extern "C" {
     fn tambuyeel_build(
         views: *mut u8, views_len: usize, bytes: *mut u8, bytes_len: usize, starts: *mut usize, starts_len: usize, lens: *mut usize, lens_len: usize,
-        nulls: *mut u8, nulls_len: usize, places: *mut u32, places_len: usize, all: *const u8, all_len: usize, ends: *const usize, ends_len: usize, merge: usize,
+        nulls: *mut u8, nulls_len: usize, places: *mut u32, places_len: usize,
+        all: *const u8, all_len: usize, ends: *const usize, ends_len: usize, merge: usize,
     ) -> usize;
 }
 
@@ -132,10 +134,13 @@ fn values_case(ask: &Ask, name: &str, rows: usize, merge: bool, places: usize, v
     let cell = RefCell::new(b);
     let cleared = || cell.borrow_mut().places.fill(0);
     let fresh = || builder(rows, total, merge);
-    ratio(ask, &format!("{name}, batch"), rows, Jobs { before: cleared, ours: |()| batch(v, &mut cell.borrow_mut(), merge), fresh, theirs: |o| original(v, o) });
-    ratio(ask, &format!("{name}, call by call"), rows, Jobs { before: cleared, ours: |()| singly(v, &mut cell.borrow_mut(), merge), fresh, theirs: |o| original(v, o) });
-    let (alone, theirs) = (|| plain(rows, merge), |o| original(v, o));
-    ratio(ask, &format!("{name}, through the binding"), rows, Jobs { before: || (), ours: |()| bound(v, rows, merge), fresh: alone, theirs });
+    let theirs = |o| original(v, o);
+    let ours = |()| batch(v, &mut cell.borrow_mut(), merge);
+    ratio(ask, &format!("{name}, batch"), rows, Jobs { before: cleared, ours, fresh, theirs });
+    let ours = |()| singly(v, &mut cell.borrow_mut(), merge);
+    ratio(ask, &format!("{name}, call by call"), rows, Jobs { before: cleared, ours, fresh, theirs });
+    let (ours, fresh) = (|()| bound(v, rows, merge), || plain(rows, merge));
+    ratio(ask, &format!("{name}, through the binding"), rows, Jobs { before: || (), ours, fresh, theirs });
 }
 
 fn all_values(ask: &Ask) {
@@ -146,7 +151,9 @@ fn all_values(ask: &Ask) {
         values_case(ask, &format!("13 to 40 bytes, {rows} rows"), rows, false, 0, &Values::between(rows, 13, 40));
     }
     let rows = 32_000;
-    for (name, lo, hi) in [("5 bytes", 5, 5), ("12 bytes", 12, 12), ("13 bytes", 13, 13), ("40 bytes", 40, 40), ("0 to 40 bytes", 0, 40), ("200 bytes", 200, 200)] {
+    for (name, lo, hi) in
+        [("5 bytes", 5, 5), ("12 bytes", 12, 12), ("13 bytes", 13, 13), ("40 bytes", 40, 40), ("0 to 40 bytes", 0, 40), ("200 bytes", 200, 200)]
+    {
         values_case(ask, name, rows, false, 0, &Values::between(rows, lo, hi));
     }
     // half are repeats of what came before

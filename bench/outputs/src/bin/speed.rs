@@ -1,5 +1,5 @@
-//! speed [ROUNDS [NAME [SIDE]]]: ours beside the original on the same columns, best of ROUNDS (31), nanoseconds a row. Compaction against `gc_with_max_buffer_size`, which
-//! judges no row and, where no row is long, shares the views; judging alone is a call that is refused for want of row room. The offset column against the
+//! speed [ROUNDS [NAME [SIDE]]]: ours beside the original on the same columns, best of ROUNDS (31), nanoseconds a row. Compaction against
+//! `gc_with_max_buffer_size`, which judges no row and, where no row is long, shares the views; judging alone is a call that is refused for want of row room. The offset column against the
 //! original's `From` alone (it shares the bytes and judges nothing), and against all of the work: `try_new`, `From` and a copy of the bytes.
 
 use arrow_array::builder::BinaryViewBuilder;

@@ -141,7 +141,9 @@ fn reading(ask: &Ask) {
 }
 
 fn comparison(ask: &Ask) {
-    for (name, from, to) in [("comparison, random, 0 to 12 bytes", 0, 12), ("comparison, random, 13 to 40 bytes", 13, 40), ("comparison, random, 0 to 40 bytes", 0, 40)] {
+    for (name, from, to) in
+        [("comparison, random, 0 to 12 bytes", 0, 12), ("comparison, random, 13 to 40 bytes", 13, 40), ("comparison, random, 0 to 40 bytes", 0, 40)]
+    {
         rows(ask, name, |n| {
             let a = binary(n, from, to, 0);
             let l = Lent::of_array(&a, false);
@@ -174,7 +176,9 @@ fn totals(ask: &Ask) {
 }
 
 fn checks(ask: &Ask) {
-    for (name, from, to) in [("check of Binary, 0 to 12 bytes", 0, 12), ("check of Binary, 13 to 40 bytes", 13, 40), ("check of Binary, 0 to 40 bytes", 0, 40)] {
+    for (name, from, to) in
+        [("check of Binary, 0 to 12 bytes", 0, 12), ("check of Binary, 13 to 40 bytes", 13, 40), ("check of Binary, 0 to 40 bytes", 0, 40)]
+    {
         rows(ask, name, |n| {
             let a = binary(n, from, to, 0);
             let l = Lent::of_array(&a, false);

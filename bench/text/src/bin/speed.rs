@@ -1,4 +1,5 @@
-//! Times of UTF-8 and of views against Rust's own, one call a row or a value on each side, rounds interleaved. Prints the ratio of the best and of the median times.
+//! Times of UTF-8 and of views against Rust's own, one call a row or a value on each side, rounds interleaved. Prints the ratio of the best times and
+//! the median of the ratios.
 use std::hint::black_box;
 use text::timing::{Ask, seconds};
 use text::*;
@@ -67,7 +68,8 @@ fn main() {
     let chinese = |x: &mut Random| char::from_u32(0x4e00 + x.below(0x5000) as u32).unwrap();
     for row in [16, 64, 1024, 65536] {
         let total = 1 << 20;
-        for (kind, s) in [("ASCII", texts(total, row, |x| (32 + x.below(95) as u8) as char)), ("Latin", texts(total, row, latin)), ("CJK", texts(total, row, chinese))] {
+        let ascii = |x: &mut Random| (32 + x.below(95) as u8) as char;
+        for (kind, s) in [("ASCII", texts(total, row, ascii)), ("Latin", texts(total, row, latin)), ("CJK", texts(total, row, chinese))] {
             compare(&ask, &format!("{kind} {row}"), s.len() as f64, || rows(black_box(&s), row, |r| utf8(r).yes == 1), || rows(black_box(&s), row, std_utf8));
         }
     }
@@ -79,7 +81,8 @@ fn main() {
     for n in [0, 1, 2, 3, 4, 7, 8, 11, 12, 13] {
         let lens: Vec<u8> = (0..rows).map(|_| if n == 13 { x.below(13) as u8 } else { n }).collect();
         let name = if n == 13 { "view of 0 to 12, mixed".into() } else { format!("view of {n}") };
-        compare(&ask, &name, rows as f64, || views(black_box(&mut a), black_box(&src), &lens, |o, v| make_view(o, v, 0, 0)), || views(black_box(&mut b), black_box(&src), &lens, std_make_view));
+        let ours = || views(black_box(&mut a), black_box(&src), &lens, |o, v| make_view(o, v, 0, 0));
+        compare(&ask, &name, rows as f64, ours, || views(black_box(&mut b), black_box(&src), &lens, std_make_view));
         assert_eq!(a, b);
     }
 }

@@ -26,10 +26,12 @@ mod raw {
     }
 }
 
+#[inline]
 pub fn utf8(s: &[u8]) -> Text {
     unsafe { raw::tambuyeel_utf8(s.as_ptr(), s.len()) }
 }
 
+#[inline]
 pub fn make_view(out: &mut [u8; 16], v: &[u8], block: u32, offset: u32) -> u64 {
     unsafe { raw::tambuyeel_make_view(v.as_ptr(), v.len(), block, offset, out) }
 }

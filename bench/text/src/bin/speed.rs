@@ -26,13 +26,11 @@ fn texts(total: usize, row: usize, mut letter: impl FnMut(&mut Random) -> char) 
     s
 }
 
-/// Each side is asked row by row, through a function that isn't inlined: what a caller of the archive gets.
-#[inline(never)]
+/// Each side is asked row by row, by one call that isn't inlined: what a caller gets.
 fn std_utf8(s: &[u8]) -> bool {
     std::str::from_utf8(s).is_ok()
 }
 
-#[inline(never)]
 fn std_make_view(out: &mut [u8; 16], v: &[u8]) -> u64 {
     *out = original::make_view(v, 0, 0).to_le_bytes();
     0

@@ -12,17 +12,17 @@ use Rattle.column.specs.Lent.{lent}
 use Rattle.shelf.specs.Lines.{lines, firstBad}
 use Rattle.shelf.specs.Adding.{built, shelfLent, shelfColumn}
 use Rattle.whole.specs.declared.Place.the-variants.{Refused, Opening}
-use Rattle.whole.specs.Answer.{answer}
+use Rattle.whole.specs.Answer.{answer, inputMost}
 use Rattle.whole.specs.Rest.{restOf}
 use Rattle.answering.specs.declared.Begun.{Begun}
 
 -- the line that is refused, 0 where the input is too long
 unfoldable pub refusedAt : List ℕ → ℕ
-refusedAt s = pick (leb (length s) 16384) (firstBad 0 (lines s)) 0
+refusedAt s = pick (leb (length s) inputMost) (firstBad 0 (lines s)) 0
 
 -- neither too long, nor with a bad line
 unfoldable pub accepted : List ℕ → Bool
-accepted s = leb (length s) 16384 && eqb (firstBad 0 (lines s)) 0
+accepted s = leb (length s) inputMost && eqb (firstBad 0 (lines s)) 0
 
 -- no rows, no blocks
 abbrev pub noColumn : Column

@@ -9,7 +9,7 @@ use Rattle.builder.specs.Start.{start}
 use Rattle.column.specs.Lent.{lent}
 use Rattle.shelf.specs.Lines.{lines, firstBad}
 use Rattle.shelf.specs.Adding.{shelfSettings, built, shelfLent, shelfColumn}
-use Rattle.whole.specs.Answer.{rowOf, answer, listedColumn}
+use Rattle.whole.specs.Answer.{rowOf, answer, listedColumn, inputMost}
 use Rattle.whole.specs.Pieces.{Shows}
 use Rattle.answering.specs.Rows.{callOf, cellOf}
 
@@ -23,7 +23,7 @@ pub record Enough (vs bs ss ns ms : List ℕ) : Type 0 where
 
 -- an input that is accepted: neither too long, nor with a bad line
 pub record Good (s : List ℕ) : Type 0 where
-  pub size : length s ≤ 16384
+  pub size : length s ≤ inputMost
   pub lines : firstBad 0 (lines s) ≡ 0
 
 pub record Listed (s vs bs ss ns ms ps : List ℕ) : Type 0 where

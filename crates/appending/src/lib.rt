@@ -420,7 +420,7 @@ fn put_row(views: &mut [u8], to: usize, src: &[u8], from: usize, before: usize)
 }
 
 // The views of n rows of another column from its row `from` on, stored from row `to` on.
-fn put_rows(views: &mut [u8], to: usize, src: &[u8], from: usize, n: usize, before: usize)
+pub fn put_rows(views: &mut [u8], to: usize, src: &[u8], from: usize, n: usize, before: usize)
     requires { ⌜ (16 * (to + n) ≤ length (now views)) × (16 * (from + n) ≤ length (now src)) × (before < 2 ^ 32) ⌝ }
     ensures { λ _. ⌜ now (views .exit) ≡ putFrom (λ k. renumbered before (viewAt (now (src .entry)) (from + k))) n (now (views .entry)) to ⌝ }
 {
@@ -432,7 +432,7 @@ fn put_rows(views: &mut [u8], to: usize, src: &[u8], from: usize, n: usize, befo
 }
 
 // Whether a null was added, before or among rows with so many.
-fn flag(nulled: bool, nulls: usize) -> bool
+pub fn flag(nulled: bool, nulls: usize) -> bool
     ensures { λ r. ⌜ r ≡ pick (eqb nulls 0) nulled true ⌝ }
 {
     if nulls == 0 {
@@ -442,7 +442,7 @@ fn flag(nulled: bool, nulls: usize) -> bool
 }
 
 // The state with so many rows and blocks more, up to an end.
-fn column_more(s: State, rows: usize, blocks: usize, end: usize, nulled: bool) -> State
+pub fn column_more(s: State, rows: usize, blocks: usize, end: usize, nulled: bool) -> State
     requires { ⌜ (s .rows + rows ≤ rowLimit) × (s .blocks + blocks ≤ blockLimit) ⌝ }
     ensures { λ r. ⌜ r ≡ columnMore rows blocks end nulled s ⌝ }
 {

@@ -75,7 +75,8 @@ module _ {M : Type 1} (𝓤 : URA M) (H : Heap 𝓤) (A : Atoms 𝓤) (mem : Mem
         abbrev pub compare-fact : Compared → Type 0
         compare-fact o = o ≡ compareRows l c row (buffers (now x2) (now y2) (now t2) (now z2)) d j
 
-        pub compare-says : (o : Compared) → compare.clauses 𝓤 H A mem run (κ, tt) (x, (y, (t, (z, (c, (row, (x2, (y2, (t2, (z2, (d, (j, tt)))))))))))) .ensures tt o
+        pub compare-says : (o : Compared) → compare.clauses 𝓤 H A mem run (κ, tt)
+            (x, (y, (t, (z, (c, (row, (x2, (y2, (t2, (z2, (d, (j, tt)))))))))))) .ensures tt o
             (x, (y, (t, (z, (c, (row, (x2, (y2, (t2, (z2, (d, (j, tt)))))))))))) ≡ fact 𝓤 (compare-fact o)
         compare-says o = refl
 

@@ -26,7 +26,7 @@ use column::Seen;
 use comparison::Compared;
 
 // The number of the block that a row's view names; where the views have no such row, 0.
-fn block_of(views: &[u8], c: Column, row: usize) -> usize
+pub fn block_of(views: &[u8], c: Column, row: usize) -> usize
     ensures { λ k. ⌜ (viewSize * (c .first + row) + viewSize ≤ length (now (views .entry)) → k ≡ blockOf (viewAt (now (views .entry)) (c .first + row))) ⌝ }
 {
     let first = c.first;
@@ -297,7 +297,7 @@ fn holds<'a>(
 }
 
 // The first place of the check that doesn't hold, or how many there are.
-fn stop_at<'a>(
+pub fn stop_at<'a>(
     views: &'a [u8],
     bytes: &'a [u8],
     table: &'a [Block],

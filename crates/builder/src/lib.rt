@@ -8,11 +8,9 @@ ghost use Rattle.basis.specs.Pick.{pick, ifLt};
 ghost use Rattle.bounds.specs.Bounds.{rowLimit, blockLimit};
 ghost use Rattle.builder.specs.State.{held, placesRoom, allBlocks, fitsRooms, fitsState, rowed};
 ghost use Rattle.builder.specs.Rooms.{roomOfRows, roomOfBlocks, roomOfBytes, openStarts, openLens};
-use bounds::Refusal;
 use bounds::Why;
 use column::Kind;
 use growth::Growth;
-use merging::Found;
 
 // Which long values take the view of an earlier row with the same bytes: none, all, or those of at most so many bytes.
 pub enum Merging {

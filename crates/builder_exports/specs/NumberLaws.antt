@@ -2,8 +2,8 @@
 use mathlib.Core.Path.{_≡_, refl, ap, _∙_}
 use mathlib.Core.Bool.{not}
 use mathlib.Core.List.{List, [], _∷_}
-use Prim.Native.Nat.{ℕ, _+_, _*_, _≤_, _<_}
-use borrow.Author.Tests.{eq-eqb, ne-eqb, le-leb, lt-leb}
+use Prim.Native.Nat.{ℕ}
+use borrow.Author.Tests.{eq-eqb, ne-eqb}
 use lib.Dec.{eqb}
 use lib.ListN.{getD}
 use Rattle.bounds.specs.Refusals.{numberOf, whyNumber, ifAccepted}
@@ -12,10 +12,10 @@ use Rattle.bounds.specs.declared.Why.{Why}
 use Rattle.bounds.specs.declared.Why.the-variants.{Accepted, Refused}
 use Rattle.growth.specs.declared.Growth.{Growth}
 use Rattle.growth.specs.declared.Growth.the-variants.{Fixed, Doubling}
-use Rattle.views.specs.View.{viewSize, shortMost, viewAt, lengthOf}
 use Rattle.column.specs.declared.Kind.{Kind}
 use Rattle.column.specs.declared.Kind.the-variants.{Binary, Text}
 use Rattle.column.specs.declared.Column.{Column}
+use Rattle.column.specs.Room.{bare}
 use Rattle.builder.specs.declared.Merging.{Merging}
 use Rattle.builder.specs.declared.Merging.the-variants.{Off, On, UpTo}
 use Rattle.builder.specs.declared.Sizes.{Sizes}
@@ -27,12 +27,12 @@ use Rattle.builder.specs.State.{Builder, held}
 use Rattle.builder.specs.Get.{whyGet}
 use Rattle.builder.specs.Start.{whyStart, started, unstarted, startState}
 use Rattle.builder.specs.Does.{Does, answer}
-use Rattle.finishing.specs.Places.{placed}
+use Rattle.finishing.specs.Places.{spotRow}
 use Rattle.builder_exports.specs.declared.Told.{Told}
 use Rattle.builder_exports.specs.declared.Place.{Place}
 use Rattle.builder_exports.specs.Numbers.{kindOf, growthOf, sizesOf, mergingOf, stateOf, settingsOf, columnFrom}
 use Rattle.builder_exports.specs.Numbers.{kindNumber, growthNumber, growthSize, mergingNumber, mergingMost, flag, numbersOf, columnNumbers}
-use Rattle.builder_exports.specs.Numbers.{told, place, standing, placeGot, Exported}
+use Rattle.builder_exports.specs.Numbers.{told, place, placeOf, placeGot, Exported}
 
 module _ (why : Builder → Why) (put : Builder → Builder) (l vs bs ss ns ms ps : List ℕ) (s : State) (a : Answer) (vs′ bs′ ss′ ns′ ms′ ps′ : List ℕ)
     (e : s ≡ stateOf l) (d : Does why put s vs bs ss ns ms ps a vs′ bs′ ss′ ns′ ms′ ps′) where
@@ -168,19 +168,11 @@ column-numbers-are c k f a b = λ i. c .first ∷ c .rows ∷ c .blocks ∷ a i 
 
 -- ---- places
 
-pub stands-short : (s : State) (ss v : List ℕ) (r n : ℕ) → n ≡ lengthOf v → n ≤ shortMost → place 0 0 (viewSize * r + 4) n ≡ standing s ss v r
-unfolding standing
-stands-short s ss v r n e h = rw (← e, le-leb n shortMost h)
-
-pub stands-long : (s : State) (ss v : List ℕ) (r n a : ℕ) → n ≡ lengthOf v → shortMost < n → a ≡ placed s ss v → place 0 1 a n ≡ standing s ss v r
-unfolding standing
-stands-long s ss v r n a e h p = rw (p, ← e, lt-leb n shortMost h)
-
 module _ (s : State) (vs bs ss ns ms ps : List ℕ) (r : ℕ) (w : Why) (is : w ≡ whyGet (held s vs bs ss ns ms ps) r) where
   pub got-not : (e : Refusal) → w ≡ Refused e → (n : ℕ) → n ≡ numberOf e → place n 0 0 0 ≡ placeGot s vs bs ss ns ms ps r
   unfolding placeGot
   got-not e q n p = rw (← is, q, p)
 
-  pub got-there : w ≡ Accepted → (p : Place) → p ≡ standing s ss (viewAt vs r) r → p ≡ placeGot s vs bs ss ns ms ps r
+  pub got-there : w ≡ Accepted → (p : Place) → p ≡ placeOf (spotRow s (bare vs bs ss ns) r) → p ≡ placeGot s vs bs ss ns ms ps r
   unfolding placeGot
   got-there q p e = rw (← is, q) e

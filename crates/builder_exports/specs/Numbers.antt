@@ -2,7 +2,7 @@
 use mathlib.Core.Path.{_≡_}
 use mathlib.Core.Bool.{Bool, true, false, not}
 use mathlib.Core.List.{List, [], _∷_}
-use Prim.Native.Nat.{ℕ, _+_, _*_}
+use Prim.Native.Nat.{ℕ}
 use lib.Dec.{eqb}
 use lib.ListN.{getD}
 use Rattle.basis.specs.Pick.{pick}
@@ -11,10 +11,12 @@ use Rattle.bounds.specs.declared.Why.{Why}
 use Rattle.bounds.specs.declared.Why.the-variants.{Accepted, Refused}
 use Rattle.growth.specs.declared.Growth.{Growth}
 use Rattle.growth.specs.declared.Growth.the-variants.{Fixed, Doubling}
-use Rattle.views.specs.View.{viewSize, viewAt, isShort, lengthOf}
 use Rattle.column.specs.declared.Kind.{Kind}
 use Rattle.column.specs.declared.Kind.the-variants.{Binary, Text}
 use Rattle.column.specs.declared.Column.{Column}
+use Rattle.column.specs.declared.Spot.{Spot}
+use Rattle.column.specs.declared.Spot.the-variants as spot
+use Rattle.column.specs.Room.{bare}
 use Rattle.builder.specs.declared.Merging.{Merging}
 use Rattle.builder.specs.declared.Merging.the-variants.{Off, On, UpTo}
 use Rattle.builder.specs.declared.Sizes.{Sizes}
@@ -24,7 +26,7 @@ use Rattle.builder.specs.declared.State.{State}
 use Rattle.builder.specs.State.{Builder, held}
 use Rattle.builder.specs.Get.{whyGet}
 use Rattle.builder.specs.Does.{left, startsOf, lensOf}
-use Rattle.finishing.specs.Places.{placed}
+use Rattle.finishing.specs.Places.{spotRow}
 use Rattle.builder_exports.specs.declared.Told.{Told}
 use Rattle.builder_exports.specs.declared.Place.{Place}
 
@@ -125,9 +127,12 @@ told (Refused r) = record { number = numberOf r; row = rowOf r }
 abbrev pub place : ℕ → ℕ → ℕ → ℕ → Place
 place refused buffer offset len = record { refused = refused; buffer = buffer; offset = offset; len = len }
 
--- where the value of row r stands, whose view is v: in the views (buffer 0), behind its length, or in the data (1)
-unfoldable pub standing : State → List ℕ → List ℕ → ℕ → Place
-standing s starts v r = pick (isShort (lengthOf v)) (place 0 0 (viewSize * r + 4) (lengthOf v)) (place 0 1 (placed s starts v) (lengthOf v))
+-- in the views (buffer 0), or in the data (1)
+abbrev pub placeOf : Spot → Place
+placeOf (spot.View o n) = place 0 0 o n
+placeOf (spot.Data o n) = place 0 1 o n
+placeOf spot.NoBlock = place 0 0 0 0
+placeOf spot.Outside = place 0 0 0 0
 
 abbrev pub placeWhen : Why → Place → Place
 placeWhen Accepted p = p
@@ -135,7 +140,7 @@ placeWhen (Refused r) p = place (numberOf r) 0 0 0
 
 -- where the value of a row stands while it is built
 unfoldable pub placeGot : State → List ℕ → List ℕ → List ℕ → List ℕ → List ℕ → List ℕ → ℕ → Place
-placeGot s vs bs ss ns ms ps r = placeWhen (whyGet (held s vs bs ss ns ms ps) r) (standing s ss (viewAt vs r) r)
+placeGot s vs bs ss ns ms ps r = placeWhen (whyGet (held s vs bs ss ns ms ps) r) (placeOf (spotRow s (bare vs bs ss ns) r))
 
 -- ---- a call: its number, the state's numbers and each buffer at exit, of those at entry
 

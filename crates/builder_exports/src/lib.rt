@@ -1,14 +1,8 @@
 // The builder for C and Rust: its state, settings and columns by numbers, its buffers lent. include/tambuyeel.h says the same for C.
 ghost use mathlib.Core.Path.{_≡_};
-ghost use mathlib.Core.Bool.{true};
-ghost use Prim.Native.Nat.{_<_};
 ghost use Rattle.bounds.specs.Refusals.{whyNumber, ifAccepted};
-ghost use Rattle.views.specs.View.{viewAt};
 ghost use Rattle.column.specs.Lent.{lent};
-ghost use Rattle.column.specs.Room.{bare};
-ghost use Rattle.column.specs.Truth.{reachable};
-ghost use Rattle.builder.specs.State.{held, allBlocks, recorded};
-ghost use Rattle.builder.specs.Rooms.{Ready};
+ghost use Rattle.builder.specs.State.{held};
 ghost use Rattle.builder.specs.Get.{columnOf};
 ghost use Rattle.builder.specs.Start.{whyStart, started, startPlaces};
 ghost use Rattle.builder.specs.Values.{whyValues, putValues, whyNull, putNull};
@@ -16,7 +10,7 @@ ghost use Rattle.builder.specs.Others.{whyBlock, putBlock, blockNumber, whyView
 ghost use Rattle.builder.specs.Finish.{whyFinish, copied, finished};
 ghost use Rattle.builder_exports.specs.Numbers.{kindOf, growthOf, sizesOf, mergingOf, stateOf, settingsOf, columnFrom};
 ghost use Rattle.builder_exports.specs.Numbers.{kindNumber, growthNumber, growthSize, mergingNumber, mergingMost, flag, numbersOf, columnNumbers};
-ghost use Rattle.builder_exports.specs.Numbers.{told, standing, placeGot, Exported};
+ghost use Rattle.builder_exports.specs.Numbers.{told, placeOf, placeGot, Exported};
 use bounds::Why;
 use builder::Answer;
 use builder::Merging;
@@ -25,7 +19,7 @@ use builder::Sizes;
 use builder::State;
 use column::Column;
 use column::Kind;
-use finishing::Finished;
+use column::Spot;
 use growth::Growth;
 
 // A verdict: 0 or the refusal's number, and the row that refusal 11 names.
@@ -470,37 +464,34 @@ pub extern "C" fn tambuyeel_append_column<'a>(
     told_why(w)
 }
 
-// Where the value of a row that can be got stands.
-fn place_of(
-    s: State,
-    views: &[u8],
-    bytes: &[u8],
-    starts: &[usize],
-    lens: &[usize],
-    row: usize,
-) -> Place
-    requires { ⌜ Ready s (now views) (now starts) (now lens) × (row < s .rows)
-        × (reachable (recorded s (bare (now views) (now bytes) (now starts) (now lens))) (allBlocks s) (viewAt (now views) row) ≡ true) ⌝ }
-    ensures { λ r. ⌜ r ≡ standing s (now (starts .entry)) (viewAt (now (views .entry)) row) row ⌝ }
+fn place_of(s: Spot) -> Place
+    ensures { λ r. ⌜ r ≡ placeOf s ⌝ }
 {
-    let blocks = s.blocks;
-    let base = s.base;
-    let len = views::view_len(views, row);
-    if len <= views::SHORT_MOST {
-        return Place {
+    match s {
+        Spot::View(a, n) => return Place {
             refused: 0,
             buffer: 0,
-            offset: views::VIEW_SIZE * row + 4,
-            len,
-        };
-    }
-    let k = views::view_block(views, row);
-    let offset = builder::at_or(starts, blocks, base, k) + views::view_offset(views, row);
-    Place {
-        refused: 0,
-        buffer: 1,
-        offset,
-        len,
+            offset: a,
+            len: n,
+        },
+        Spot::Data(a, n) => return Place {
+            refused: 0,
+            buffer: 1,
+            offset: a,
+            len: n,
+        },
+        Spot::NoBlock => return Place {
+            refused: 0,
+            buffer: 0,
+            offset: 0,
+            len: 0,
+        },
+        Spot::Outside => return Place {
+            refused: 0,
+            buffer: 0,
+            offset: 0,
+            len: 0,
+        },
     }
 }
 
@@ -528,7 +519,7 @@ pub extern "C" fn tambuyeel_get_value(
             offset: 0,
             len: 0,
         },
-        Why::Accepted => return place_of(s, views, bytes, starts, lens, row),
+        Why::Accepted => return place_of(finishing::spot_row(s, views, bytes, starts, lens, row)),
     }
 }
 

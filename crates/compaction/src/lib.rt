@@ -43,7 +43,7 @@ pub struct Survey {
 }
 
 // The walk after a row of `n` bytes.
-fn step(s: Stand, n: usize, most: usize) -> Stand
+pub fn step(s: Stand, n: usize, most: usize) -> Stand
     requires { ⌜ Small n s ⌝ }
     ensures { λ r. ⌜ r ≡ stepOf most n s ⌝ }
 {
@@ -175,7 +175,7 @@ fn room_for(s: Stand, n: usize, most: usize) -> Stand
 }
 
 // The row of a long value.
-fn put_long(
+pub fn put_long(
     newviews: &mut [u8],
     newbytes: &mut [u8],
     row: usize,
@@ -356,7 +356,7 @@ fn put_table(
 }
 
 // The blocks that a walk makes: none where it copied nothing.
-fn blocks_of(s: Stand) -> usize
+pub fn blocks_of(s: Stand) -> usize
     requires { ⌜ Small 0 s ⌝ }
     ensures { λ r. ⌜ r ≡ blocksBy s ⌝ }
 {
@@ -435,7 +435,7 @@ fn judge<'a>(
 }
 
 // The map, if there is one, from bit 0 on.
-fn put_map(newnulls: &mut [u8], nulls: &[u8], mapped: bool, first: usize, rows: usize)
+pub fn put_map(newnulls: &mut [u8], nulls: &[u8], mapped: bool, first: usize, rows: usize)
     requires { ⌜ (mapped ≡ true → (rows ≤ 8 * length (now newnulls)) × (first + rows ≤ 8 * length (now nulls))) × (first + rows < 2 ^ 63) ⌝ }
     ensures { λ _. ⌜ now (newnulls .exit) ≡ mapBy (now (newnulls .entry)) (now (nulls .entry)) mapped first rows ⌝ }
 {

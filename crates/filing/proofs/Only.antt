@@ -8,19 +8,20 @@ use prog.Routine.{Routine}
 use prog.Wp.{Heap}
 use ghost.Atoms.{Atoms}
 use contract.Monad.{Fun, fact}
-use denote.Ref.{RefT, now}
+use denote.Ref.{RefT, ptr, now}
 use Prim.Native.Nat.{ℕ}
 use Rattle.appending.specs.declared.Placed.{Placed}
 use Rattle.bounds.specs.declared.Why.{Why}
 use Rattle.builder.specs.Finish.{copied, finishColumn, finished, whyFinish}
 use Rattle.builder.specs.Get.{getValue, whyGet}
 use Rattle.builder.specs.Others.{blockNumber, putBlock, whyBlock}
-use Rattle.builder.specs.Values.{putNull, putValues, whyNull, whyValues}
+use Rattle.builder.specs.Values.{putNull, whyNull}
 use Rattle.builder.specs.declared.Answer.{Answer}
 use Rattle.builder.specs.declared.State.{State}
 use Rattle.column.specs.declared.Block.{Block}
 use Rattle.filing.specs.Files.{Files, filed}
 use Rattle.finishing.specs.declared.Finished.{Finished}
+use Rattle.finishing.specs.Places.{getPoints}
 use mathlib.Core.List.{List}
 use mathlib.Core.Path.{_∙_, _≡_, refl, sym}
 use Rattle.filing.proofs.append_null as append_null
@@ -29,8 +30,6 @@ use Rattle.filing.proofs.finish_copy as finish_copy
 use Rattle.filing.proofs.why_get as why_get
 use Rattle.filing.proofs.get_value as get_value
 use Rattle.filing.proofs.append_block as append_block
-use Rattle.filing.proofs.append_value as append_value
-use Rattle.filing.proofs.append_values as append_values
 
 module _ {M : Type 1} (𝓤 : URA M) (H : Heap 𝓤) (A : Atoms 𝓤) (mem : Memory → SProp 𝓤) (run : Routine → Fun 𝓤) (κ0 κ1 κ2 κ3 κ4 : Lft)
     (s : State) (views : RefT (List ℕ)) (bytes : RefT (List ℕ)) (table : RefT (List Block)) (nulls : RefT (List ℕ)) (places : RefT (List ℕ)) where
@@ -103,15 +102,16 @@ module _ {M : Type 1} (𝓤 : URA M) (H : Heap 𝓤) (A : Atoms 𝓤) (mem : Mem
 module _ {M : Type 1} (𝓤 : URA M) (H : Heap 𝓤) (A : Atoms 𝓤) (mem : Memory → SProp 𝓤) (run : Routine → Fun 𝓤) (κ0 κ1 κ2 κ3 : Lft)
     (s : State) (views : RefT (List ℕ)) (bytes : RefT (List ℕ)) (table : RefT (List Block)) (nulls : RefT (List ℕ)) (places : RefT (List ℕ)) (r : ℕ) where
   abbrev pub get-value-fact : RefT (List ℕ) → Type 0
-  get-value-fact z = now z ≡ getValue (filed s (now views) (now bytes) (now table) (now nulls) (now places)) r
+  get-value-fact z = (now z ≡ getValue (filed s (now views) (now bytes) (now table) (now nulls) (now places)) r)
+      × (ptr z ≡ getPoints (filed s (now views) (now bytes) (now table) (now nulls) (now places)) r (ptr views) (ptr bytes))
 
   pub get-value-says : (z : RefT (List ℕ)) → get_value.clauses 𝓤 H A mem run (κ0, (κ1, (κ2, (κ3, tt))))
       (s, (views, (bytes, (table, (nulls, (places, (r, tt))))))) .ensures tt z (s, (views, (bytes, (table, (nulls, (places, (r, tt)))))))
       ≡ fact 𝓤 (get-value-fact z)
   get-value-says z = refl
 
-  pub get-value-one : (z z′ : RefT (List ℕ)) → get-value-fact z → get-value-fact z′ → now z ≡ now z′
-  get-value-one z z′ p q = p ∙ sym q
+  pub get-value-one : (z z′ : RefT (List ℕ)) → get-value-fact z → get-value-fact z′ → (ptr z ≡ ptr z′) × (now z ≡ now z′)
+  get-value-one z z′ p q = (p .1 ∙ sym (q .1), p .0 ∙ sym (q .0))
 
 module _ {M : Type 1} (𝓤 : URA M) (H : Heap 𝓤) (A : Atoms 𝓤) (mem : Memory → SProp 𝓤) (run : Routine → Fun 𝓤) (κ0 κ1 κ2 κ3 κ4 κ5 : Lft)
     (s : State) (views : RefT (List ℕ)) (bytes : RefT (List ℕ)) (table : RefT (List Block)) (nulls : RefT (List ℕ)) (places : RefT (List ℕ))
@@ -136,58 +136,4 @@ module _ {M : Type 1} (𝓤 : URA M) (H : Heap 𝓤) (A : Atoms 𝓤) (mem : Mem
     },
     p .0 .bytes ∙ sym (q .0 .bytes),
     p .0 .table ∙ sym (q .0 .table),
-  )
-
-module _ {M : Type 1} (𝓤 : URA M) (H : Heap 𝓤) (A : Atoms 𝓤) (mem : Memory → SProp 𝓤) (run : Routine → Fun 𝓤) (κ0 κ1 κ2 κ3 κ4 κ5 : Lft)
-    (s : State) (views : RefT (List ℕ)) (bytes : RefT (List ℕ)) (table : RefT (List Block)) (nulls : RefT (List ℕ)) (places : RefT (List ℕ))
-    (x : RefT (List ℕ)) where
-  abbrev pub append-value-fact : Answer → RefT (List ℕ) → RefT (List ℕ) → RefT (List Block) → RefT (List ℕ) → RefT (List ℕ) → Type 0
-  append-value-fact z views′ bytes′ table′ nulls′ places′ = Files (λ b. whyValues 1 b (now x)) (putValues 1 (now x)) s (now views) (now bytes)
-      (now table) (now nulls) (now places) z (now views′) (now bytes′) (now table′) (now nulls′) (now places′)
-
-  pub append-value-says : (z : Answer) (views′ : RefT (List ℕ)) (bytes′ : RefT (List ℕ)) (table′ : RefT (List Block)) (nulls′ : RefT (List ℕ))
-      (places′ : RefT (List ℕ)) → append_value.clauses 𝓤 H A mem run (κ0, (κ1, (κ2, (κ3, (κ4, (κ5, tt))))))
-      (s, (views, (bytes, (table, (nulls, (places, (x, tt))))))) .ensures tt z (s, (views′, (bytes′, (table′, (nulls′, (places′, (x, tt)))))))
-      ≡ fact 𝓤 (append-value-fact z views′ bytes′ table′ nulls′ places′)
-  append-value-says z views′ bytes′ table′ nulls′ places′ = refl
-
-  pub append-value-one : (z z′ : Answer) (views′ views″ : RefT (List ℕ)) (bytes′ bytes″ : RefT (List ℕ)) (table′ table″ : RefT (List Block))
-      (nulls′ nulls″ : RefT (List ℕ)) (places′ places″ : RefT (List ℕ)) → append-value-fact z views′ bytes′ table′ nulls′ places′
-      → append-value-fact z′ views″ bytes″ table″ nulls″ places″ → (z ≡ z′) × (now views′ ≡ now views″) × (now bytes′ ≡ now bytes″)
-      × (now table′ ≡ now table″) × (now nulls′ ≡ now nulls″) × (now places′ ≡ now places″)
-  append-value-one z z′ views′ views″ bytes′ bytes″ table′ table″ nulls′ nulls″ places′ places″ p q = (
-    p .answers ∙ sym (q .answers),
-    p .views
-        ∙ sym (q .views),
-    p .bytes ∙ sym (q .bytes),
-    p .table ∙ sym (q .table),
-    p .nulls ∙ sym (q .nulls),
-    p .places ∙ sym (q .places),
-  )
-
-module _ {M : Type 1} (𝓤 : URA M) (H : Heap 𝓤) (A : Atoms 𝓤) (mem : Memory → SProp 𝓤) (run : Routine → Fun 𝓤) (κ0 κ1 κ2 κ3 κ4 κ5 : Lft)
-    (s : State) (views : RefT (List ℕ)) (bytes : RefT (List ℕ)) (table : RefT (List Block)) (nulls : RefT (List ℕ)) (places : RefT (List ℕ))
-    (x : RefT (List ℕ)) (n : ℕ) where
-  abbrev pub append-values-fact : Answer → RefT (List ℕ) → RefT (List ℕ) → RefT (List Block) → RefT (List ℕ) → RefT (List ℕ) → Type 0
-  append-values-fact z views′ bytes′ table′ nulls′ places′ = Files (λ b. whyValues n b (now x)) (putValues n (now x)) s (now views) (now bytes)
-      (now table) (now nulls) (now places) z (now views′) (now bytes′) (now table′) (now nulls′) (now places′)
-
-  pub append-values-says : (z : Answer) (views′ : RefT (List ℕ)) (bytes′ : RefT (List ℕ)) (table′ : RefT (List Block)) (nulls′ : RefT (List ℕ))
-      (places′ : RefT (List ℕ)) → append_values.clauses 𝓤 H A mem run (κ0, (κ1, (κ2, (κ3, (κ4, (κ5, tt))))))
-      (s, (views, (bytes, (table, (nulls, (places, (x, (n, tt)))))))) .ensures tt z
-      (s, (views′, (bytes′, (table′, (nulls′, (places′, (x, (n, tt)))))))) ≡ fact 𝓤 (append-values-fact z views′ bytes′ table′ nulls′ places′)
-  append-values-says z views′ bytes′ table′ nulls′ places′ = refl
-
-  pub append-values-one : (z z′ : Answer) (views′ views″ : RefT (List ℕ)) (bytes′ bytes″ : RefT (List ℕ)) (table′ table″ : RefT (List Block))
-      (nulls′ nulls″ : RefT (List ℕ)) (places′ places″ : RefT (List ℕ)) → append-values-fact z views′ bytes′ table′ nulls′ places′
-      → append-values-fact z′ views″ bytes″ table″ nulls″ places″ → (z ≡ z′) × (now views′ ≡ now views″) × (now bytes′ ≡ now bytes″)
-      × (now table′ ≡ now table″) × (now nulls′ ≡ now nulls″) × (now places′ ≡ now places″)
-  append-values-one z z′ views′ views″ bytes′ bytes″ table′ table″ nulls′ nulls″ places′ places″ p q = (
-    p .answers ∙ sym (q .answers),
-    p .views
-        ∙ sym (q .views),
-    p .bytes ∙ sym (q .bytes),
-    p .table ∙ sym (q .table),
-    p .nulls ∙ sym (q .nulls),
-    p .places ∙ sym (q .places),
   )

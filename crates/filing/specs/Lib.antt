@@ -1,9 +1,6 @@
 pub mod Files
 pub mod Rows
-pub mod Quests
 pub mod FilesLaws
 pub mod EndLaws
 pub mod RowLaws
 pub mod LayLaws
-pub mod QuestLaws
-pub mod ValueLaws

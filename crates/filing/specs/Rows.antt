@@ -1,17 +1,11 @@
 -- What a row's view and the record of the block that it names have to do with each other. Assumes nothing.
 use mathlib.Core.Path.{_≡_}
-use mathlib.Core.Bool.{true}
 use mathlib.Core.List.{List}
 use Prim.Native.Nat.{ℕ, _+_, _*_, _≤_}
 use lib.ListN.{length, getD}
 use Rattle.views.specs.View.{viewAt, blockOf}
 use Rattle.column.specs.declared.Block.{Block}
 use Rattle.column.specs.Lent.{block}
-use Rattle.column.specs.Room.{bare}
-use Rattle.column.specs.Truth.{reachable}
-use Rattle.builder.specs.declared.State.{State}
-use Rattle.builder.specs.State.{allBlocks, recorded}
-use Rattle.builder.specs.Rooms.{Ready}
 
 -- b is the record of the block that the view of row r names, in a table of two number slices
 abbrev pub Names : List ℕ → ℕ → Block → List ℕ → List ℕ → Type 0
@@ -20,11 +14,3 @@ Names vs r b ss ns = (k : ℕ) → k ≡ blockOf (viewAt vs r) → b ≡ block (
 -- in a table of records; where the views have no such row, nothing is said
 abbrev pub Sees : List ℕ → ℕ → Block → List Block → Type 0
 Sees vs r b t = 16 * r + 16 ≤ length vs → b ≡ getD t (blockOf (viewAt vs r)) (block 0 0)
-
--- the view of row r is reachable where b is the record of its block
-pub record Reached (s : State) (vs bs : List ℕ) (r : ℕ) (b : Block) : Type 0 where
-  pub starts : List ℕ
-  pub lens : List ℕ
-  pub ready : Ready s vs starts lens
-  pub names : Names vs r b starts lens
-  pub reach : reachable (recorded s (bare vs bs starts lens)) (allBlocks s) (viewAt vs r) ≡ true

@@ -1,43 +1,34 @@
 // The builder's calls over a block table that is lent as a slice of records, which the caller can write through.
 // A function that has the table is proved by hand, so each is thin: a function over the count of the records does the work and answers what is to be written.
 ghost use mathlib.Core.Path.{_≡_};
-ghost use mathlib.Core.Bool.{Bool, true};
 ghost use mathlib.Core.List.{List};
-ghost use Prim.Native.Nat.{ℕ, _+_, _-_, _*_, _≤_, _<_};
-ghost use lib.ListN.{length, set, getD};
-ghost use Rattle.basis.specs.Pick.{pick, ifLt};
+ghost use Prim.Native.Nat.{ℕ, _+_, _*_, _≤_, _<_};
+ghost use lib.ListN.{length, set};
+ghost use Rattle.basis.specs.Pick.{ifLt};
 ghost use Rattle.bounds.specs.Bounds.{blockLimit};
-ghost use Rattle.bounds.specs.Refusals.{isAccepted};
-ghost use Rattle.growth.specs.Growing.{fitsGrowth};
 ghost use Rattle.views.specs.View.{viewAt, blockOf};
 ghost use Rattle.column.specs.declared.Block.{Block};
 ghost use Rattle.column.specs.Room.{bare};
-ghost use Rattle.column.specs.Meaning.{blocksOf, shown};
-ghost use Rattle.column.specs.Truth.{reachable};
-ghost use Rattle.builder.specs.State.{held, allBlocks, used, fitsRooms, recorded, fitsOpen, roomed};
-ghost use Rattle.builder.specs.Rooms.{roomOfRows, roomOfBlocks, roomOfBytes, Ready, showsRow};
-ghost use Rattle.builder.specs.RoomLaws.{Judged};
+ghost use Rattle.builder.specs.State.{allBlocks, fitsRooms};
+ghost use Rattle.builder.specs.Rooms.{roomOfRows, roomOfBlocks, roomOfBytes, Ready};
 ghost use Rattle.builder.specs.Get.{whyGet, getValue};
 ghost use Rattle.builder.specs.Others.{whyBlock, putBlock, blockNumber};
-ghost use Rattle.builder.specs.Values.{foundBy, found, whyStore, whyValues, putValue, putValues, whyNull, putNull};
+ghost use Rattle.builder.specs.Values.{whyNull, putNull};
 ghost use Rattle.builder.specs.Finish.{whyFinish, copied, finished, finishColumn};
 ghost use Rattle.filing.specs.Files.{Files, filed, openTable};
-ghost use Rattle.filing.specs.Rows.{Names, Sees, Reached};
-ghost use Rattle.filing.specs.Quests.{Sound, Searched, Going, rest};
-ghost use Rattle.filing.specs.FilesLaws.{blank};
+ghost use Rattle.filing.specs.Rows.{Names, Sees};
+ghost use Rattle.finishing.specs.Places.{spotRow, getPoints};
+ghost use Rattle.column.specs.Spot.{Lies};
+ghost use denote.Ref.{ptr};
 ghost use Rattle.filing.specs.LayLaws.{blockBy};
 use appending::Placed;
 use bounds::Refusal;
 use bounds::Why;
 use builder::Answer;
-use builder::Merging;
 use builder::State;
 use column::Block;
-use column::Column;
-use column::Kind;
+use column::Spot;
 use finishing::Finished;
-use growth::Growth;
-use merging::Found;
 
 // A record, and where in the table it goes; past the table's end it goes nowhere.
 pub struct Entry {
@@ -53,7 +44,7 @@ pub struct Ended {
 }
 
 // Whether a state fits what is lent, by the lengths, and by the count of the records.
-fn fits_with(
+pub fn fits_with(
     s: State,
     views: usize,
     bytes: usize,
@@ -73,7 +64,7 @@ fn fits_with(
 }
 
 // The record of the open block, if any.
-fn open_record(s: State, count: usize) -> Entry
+pub fn open_record(s: State, count: usize) -> Entry
     ensures { λ r. ⌜ ((t : List Block) → count ≡ length t → set t (r .at) (r .block) ≡ openTable s t) ⌝ }
 {
     let k = s.blocks;
@@ -273,7 +264,7 @@ pub fn finish(
 }
 
 // The number of the block that a row's view names; where the views have no such row, 0.
-fn named(views: &[u8], r: usize) -> usize
+pub fn named(views: &[u8], r: usize) -> usize
     ensures { λ k. ⌜ (16 * r + 16 ≤ length (now (views .entry)) → k ≡ blockOf (viewAt (now (views .entry)) r)) ⌝ }
 {
     if views.len() / views::VIEW_SIZE <= r {
@@ -283,7 +274,7 @@ fn named(views: &[u8], r: usize) -> usize
 }
 
 // The record of block k, by the table's: the open block's after those of the completed ones.
-fn record_or(s: State, k: usize, b: Block) -> Block
+pub fn record_or(s: State, k: usize, b: Block) -> Block
     ensures { λ r. ⌜ (r .start ≡ ifLt k (s .blocks) (b .start) (s .base)) × (r .len ≡ ifLt k (s .blocks) (b .len) (s .fill)) ⌝ }
 {
     let start = s.base;
@@ -294,48 +285,14 @@ fn record_or(s: State, k: usize, b: Block) -> Block
     Block { start, len }
 }
 
-// Whether the view of a row that is there is reachable, by the record that the table has of its block.
-fn reach_row(s: State, views: &[u8], bytes: &[u8], r: usize, b: Block) -> bool
+// Where the value of a row stands while it is built, by the record of the block that its view names.
+fn spot_row(s: State, views: &[u8], bytes: &[u8], r: usize, b: Block) -> Spot
     requires { ⌜ (16 * s .rows ≤ length (now views)) × (r < s .rows) × (allBlocks s ≤ blockLimit) ⌝ }
-    ensures { λ y. ⌜ ((ss ns : List ℕ) → Ready s (now (views .entry)) ss ns → Names (now (views .entry)) r b ss ns
-        → y ≡ reachable (recorded s (bare (now (views .entry)) (now (bytes .entry)) ss ns)) (allBlocks s) (viewAt (now (views .entry)) r)) ⌝ }
+    ensures { λ x. ⌜ Lies (now (views .entry)) (now (bytes .entry)) x × ((ss ns : List ℕ) → Ready s (now (views .entry)) ss ns
+        → Names (now (views .entry)) r b ss ns → x ≡ spotRow s (bare (now (views .entry)) (now (bytes .entry)) ss ns) r) ⌝ }
 {
-    let len = views::view_len(views, r);
-    if len <= views::SHORT_MOST {
-        return true;
-    }
-    let k = views::view_block(views, r);
-    if builder::all_blocks(s) <= k {
-        return false;
-    }
-    let d = record_or(s, k, b);
-    let start = d.start;
-    let size = d.len;
-    if !column::in_data(bytes, start, size) {
-        return false;
-    }
-    views::view_offset(views, r) + len <= size
-}
-
-// The value that a reachable view shows, by the record that the table has of its block.
-fn part_row<'a>(s: State, views: &'a [u8], bytes: &'a [u8], r: usize, b: Block) -> &'a [u8]
-    requires { ⌜ (16 * s .rows ≤ length (now views)) × (r < s .rows) × Reached s (now views) (now bytes) r b ⌝ }
-    ensures { λ y. ⌜ ((ss ns : List ℕ) → Ready s (now (views .entry)) ss ns → Names (now (views .entry)) r b ss ns
-        → reachable (recorded s (bare (now (views .entry)) (now (bytes .entry)) ss ns)) (allBlocks s) (viewAt (now (views .entry)) r) ≡ true
-        → now y ≡ shown (blocksOf (recorded s (bare (now (views .entry)) (now (bytes .entry)) ss ns)) (allBlocks s)) (viewAt (now (views .entry)) r)) ⌝ }
-{
-    let len = views::view_len(views, r);
-    if len <= views::SHORT_MOST {
-        let a = views::VIEW_SIZE * r + 4;
-        let e = a + len;
-        return &views[a..e];
-    }
-    let k = views::view_block(views, r);
-    let d = record_or(s, k, b);
-    let start = d.start;
-    let a = start + views::view_offset(views, r);
-    let e = a + len;
-    &bytes[a..e]
+    let d = record_or(s, views::view_block(views, r), b);
+    column::spot_with(views, r, builder::all_blocks(s), column::room_of(bytes), d)
 }
 
 // Why a row's value is refused: the work, by the count of the records and the record of the block that the row's view names.
@@ -366,7 +323,7 @@ fn why_with<'a>(
     if rows <= r {
         return Why::Refused(Refusal::Row);
     }
-    if !reach_row(s, views, bytes, r, b) {
+    if !column::is_reached(spot_row(s, views, bytes, r, b)) {
         return Why::Refused(Refusal::BadView(r));
     }
     Why::Accepted
@@ -384,7 +341,9 @@ fn get_with<'a>(
     r: usize,
 ) -> &'a [u8]
     ensures { λ y. ⌜ ((t : List Block) → count ≡ length t → Sees (now (views .entry)) r b t
-        → now y ≡ getValue (filed s (now (views .entry)) (now (bytes .entry)) t (now (nulls .entry)) (now (places .entry))) r) ⌝ }
+        → (now y ≡ getValue (filed s (now (views .entry)) (now (bytes .entry)) t (now (nulls .entry)) (now (places .entry))) r)
+        × (ptr y ≡ getPoints (filed s (now (views .entry)) (now (bytes .entry)) t (now (nulls .entry)) (now (places .entry))) r (ptr (views .entry))
+        (ptr (bytes .entry)))) ⌝ }
 {
     let rows = s.rows;
     if !fits_with(
@@ -400,10 +359,11 @@ fn get_with<'a>(
     if rows <= r {
         return &views[0..0];
     }
-    if !reach_row(s, views, bytes, r, b) {
+    let spot = spot_row(s, views, bytes, r, b);
+    if !column::is_reached(spot) {
         return &views[0..0];
     }
-    part_row(s, views, bytes, r, b)
+    column::part_of(views, bytes, spot)
 }
 
 // The question beside `get_value`: why a row's value is refused.
@@ -434,7 +394,9 @@ pub fn get_value<'a>(
     places: &[u32],
     r: usize,
 ) -> &'a [u8]
-    ensures { λ y. ⌜ now y ≡ getValue (filed s (now (views .entry)) (now (bytes .entry)) (now (table .entry)) (now (nulls .entry)) (now (places .entry))) r ⌝ }
+    ensures { λ y. ⌜ (now y ≡ getValue (filed s (now (views .entry)) (now (bytes .entry)) (now (table .entry)) (now (nulls .entry)) (now (places .entry))) r)
+        × (ptr y ≡ getPoints (filed s (now (views .entry)) (now (bytes .entry)) (now (table .entry)) (now (nulls .entry)) (now (places .entry))) r
+        (ptr (views .entry)) (ptr (bytes .entry))) ⌝ }
 {
     let k = named(views, r);
     let b = tables::block_or(table, k, Block { start: 0, len: 0 });
@@ -562,459 +524,4 @@ pub fn append_block(
     tables::put_or(table, r.at, r.block);
     tables::put_or(table, r.next, r.whole);
     r.placed
-}
-
-// What adding a value answers, and the record that it leaves to be written.
-pub struct Filed {
-    pub answer: Answer,
-    pub at: usize,
-    pub block: Block,
-}
-
-// The record that making room for n bytes writes: the open block's, where it has to be completed.
-fn room_record(s: State, count: usize, n: usize) -> Entry
-    requires { ⌜ s .fill + n < 18446744073709551616 ⌝ }
-    ensures { λ r. ⌜ ((t : List Block) → count ≡ length t → set t (r .at) (r .block) ≡ pick (fitsOpen s n) t (openTable s t)) ⌝ }
-{
-    if values::fits_open(s, n) {
-        return Entry {
-            at: count,
-            block: Block { start: 0, len: 0 },
-        };
-    }
-    open_record(s, count)
-}
-
-// The state whose open block takes n bytes more.
-fn room_state(s: State, n: usize) -> State
-    requires { ⌜ (allBlocks s < 18446744073709551616) × (used s + n < 18446744073709551616) × (fitsGrowth (s .growth) ≡ true) ⌝ }
-    ensures { λ r. ⌜ r ≡ roomed n s ⌝ }
-{
-    if values::fits_open(s, n) {
-        return s;
-    }
-    values::fresh(s, n)
-}
-
-// What was found, where the row and the place are there.
-fn sound(f: Found, rows: usize, places: usize) -> Found
-    ensures { λ r. ⌜ Sound r rows places × (Sound f rows places → r ≡ f) ⌝ }
-{
-    match f {
-        Found::Row(k) => {
-            if k < rows {
-                return Found::Row(k);
-            }
-            return Found::Full;
-        }
-        Found::Free(p) => {
-            if p < places {
-                return Found::Free(p);
-            }
-            return Found::Full;
-        }
-        Found::Full => return Found::Full,
-    }
-}
-
-// A long value is added, where a row has room: it takes the view of the row that was found for it, or is laid in the open block.
-fn long_with(
-    s: State,
-    views: &mut [u8],
-    bytes: &mut [u8],
-    count: usize,
-    nulls: &mut [u8],
-    places: &mut [u32],
-    x: &[u8],
-    f: Found,
-) -> Filed
-    requires { ⌜ Judged (held s (now views) (now bytes) (blank count) (blank count) (now nulls) (now places)) (now x) × (12 < length (now x))
-        × Sound f (s .rows) (length (now places)) ⌝ }
-    ensures { λ r. ⌜ (isAccepted (r .answer .why) ≡ true → r .answer .state .rows ≡ s .rows + 1)
-        × ((t : List Block) → count ≡ length t → f ≡ found (filed s (now (views .entry)) (now (bytes .entry)) t (now (nulls .entry))
-        (now (places .entry))) (now (x .entry))
-        → Files (λ b. whyStore b (now (x .entry))) (putValue (now (x .entry))) s
-        (now (views .entry)) (now (bytes .entry)) t (now (nulls .entry)) (now (places .entry))
-        (r .answer) (now (views .exit)) (now (bytes .exit)) (set t (r .at) (r .block)) (now (nulls .exit)) (now (places .exit))) ⌝ }
-{
-    let rows = s.rows;
-    let n = x.len();
-    if values::is_row(f) {
-        values::copy_view(views, values::row_of(f), rows);
-        null_bits::put_bit(nulls, rows, true);
-        let t = builder::row_more(s, true);
-        return Filed {
-            answer: Answer {
-                why: Why::Accepted,
-                state: t,
-            },
-            at: count,
-            block: Block { start: 0, len: 0 },
-        };
-    }
-    let w = values::why_lay(
-        s,
-        builder::blocks_room(count, count),
-        builder::bytes_room(bytes.len()),
-        n,
-    );
-    if !bounds::is_accepted(w) {
-        return Filed {
-            answer: Answer { why: w, state: s },
-            at: count,
-            block: Block { start: 0, len: 0 },
-        };
-    }
-    values::enter(f, places, rows);
-    let e = room_record(s, count, n);
-    let block = e.block;
-    let t = room_state(s, n);
-    let number = t.blocks;
-    let base = t.base;
-    let fill = t.fill;
-    builder::lay(bytes, base + fill, x);
-    views::long_view(
-        views,
-        views::VIEW_SIZE * rows,
-        x,
-        number as u32,
-        fill as u32,
-    );
-    null_bits::put_bit(nulls, rows, true);
-    let u = values::stored(t, n);
-    Filed {
-        answer: Answer {
-            why: Why::Accepted,
-            state: u,
-        },
-        at: e.at,
-        block,
-    }
-}
-
-// A value is added once, where a row has room.
-fn add_with(
-    s: State,
-    views: &mut [u8],
-    bytes: &mut [u8],
-    count: usize,
-    nulls: &mut [u8],
-    places: &mut [u32],
-    x: &[u8],
-    f: Found,
-) -> Filed
-    requires { ⌜ Judged (held s (now views) (now bytes) (blank count) (blank count) (now nulls) (now places)) (now x)
-        × Sound f (s .rows) (length (now places)) ⌝ }
-    ensures { λ r. ⌜ (isAccepted (r .answer .why) ≡ true → r .answer .state .rows ≡ s .rows + 1)
-        × ((t : List Block) → count ≡ length t → (12 < length (now (x .entry)) → f ≡ found (filed s (now (views .entry)) (now (bytes .entry)) t
-        (now (nulls .entry)) (now (places .entry))) (now (x .entry)))
-        → Files (λ b. whyStore b (now (x .entry))) (putValue (now (x .entry))) s
-        (now (views .entry)) (now (bytes .entry)) t (now (nulls .entry)) (now (places .entry))
-        (r .answer) (now (views .exit)) (now (bytes .exit)) (set t (r .at) (r .block)) (now (nulls .exit)) (now (places .exit))) ⌝ }
-{
-    let rows = s.rows;
-    if x.len() <= views::SHORT_MOST {
-        views::short_view(views, views::VIEW_SIZE * rows, x);
-        null_bits::put_bit(nulls, rows, true);
-        let t = builder::row_more(s, true);
-        return Filed {
-            answer: Answer {
-                why: Why::Accepted,
-                state: t,
-            },
-            at: count,
-            block: Block { start: 0, len: 0 },
-        };
-    }
-    long_with(s, views, bytes, count, nulls, places, x, f)
-}
-
-// A value is added n times: the work, by the count of the records and what the search of the merge table answered.
-fn value_with(
-    s: State,
-    views: &mut [u8],
-    bytes: &mut [u8],
-    count: usize,
-    nulls: &mut [u8],
-    places: &mut [u32],
-    x: &[u8],
-    n: usize,
-    f: Found,
-) -> Filed
-    ensures { λ r. ⌜ ((t : List Block) → count ≡ length t → Searched s (now (views .entry)) (now (bytes .entry)) t (now (places .entry)) (now (x .entry)) f
-        → Files (λ b. whyValues n b (now (x .entry))) (putValues n (now (x .entry))) s
-        (now (views .entry)) (now (bytes .entry)) t (now (nulls .entry)) (now (places .entry))
-        (r .answer) (now (views .exit)) (now (bytes .exit)) (set t (r .at) (r .block)) (now (nulls .exit)) (now (places .exit))) ⌝ }
-{
-    let merging = s.merging;
-    let rows = s.rows;
-    let room = builder::rows_room(merging, views.len(), nulls.len(), places.len());
-    let w = values::why_first(
-        s,
-        room,
-        builder::blocks_room(count, count),
-        builder::bytes_room(bytes.len()),
-        x,
-        n,
-    );
-    if !bounds::is_accepted(w) {
-        return Filed {
-            answer: Answer { why: w, state: s },
-            at: count,
-            block: Block { start: 0, len: 0 },
-        };
-    }
-    if n == 0 {
-        return Filed {
-            answer: Answer {
-                why: Why::Accepted,
-                state: s,
-            },
-            at: count,
-            block: Block { start: 0, len: 0 },
-        };
-    }
-    let g = sound(f, rows, places.len());
-    let r = add_with(s, views, bytes, count, nulls, places, x, g);
-    let answer = r.answer;
-    let why = answer.why;
-    let t = answer.state;
-    let block = r.block;
-    if !bounds::is_accepted(why) {
-        return Filed {
-            answer: Answer { why, state: t },
-            at: r.at,
-            block,
-        };
-    }
-    values::copy_rows(views, rows, rows + 1, n - 1);
-    null_bits::runs::put_run(nulls, rows + 1, n - 1, true);
-    let u = values::rows_more(t, n - 1);
-    Filed {
-        answer: Answer {
-            why: Why::Accepted,
-            state: u,
-        },
-        at: r.at,
-        block,
-    }
-}
-
-// Where a search of the merge table stands: its place, how many places are left, and what it answers where none is.
-pub struct Quest {
-    pub place: usize,
-    pub left: usize,
-    pub found: Found,
-}
-
-// A search of the merge table for x, before its first place.
-fn begin(s: State, places: &[u32], x: &[u8]) -> Quest
-    ensures { λ q. ⌜ ((hit : ℕ → Bool) → 12 < length (now (x .entry)) → rest (now (places .entry)) hit q ≡ foundBy (s .merging) (now (places .entry))
-        hit (now (x .entry))) × (0 < q .left → q .place < length (now (places .entry))) ⌝ }
-{
-    let merging = s.merging;
-    let n = places.len();
-    if x.len() <= views::SHORT_MOST {
-        return Quest {
-            place: 0,
-            left: 0,
-            found: Found::Full,
-        };
-    }
-    if !values::does_merge(merging, x.len()) {
-        return Quest {
-            place: 0,
-            left: 0,
-            found: Found::Full,
-        };
-    }
-    if n == 0 {
-        return Quest {
-            place: 0,
-            left: 0,
-            found: Found::Full,
-        };
-    }
-    let p = (hash::hash(x) % (n as u64)) as usize;
-    Quest {
-        place: p,
-        left: n,
-        found: Found::Full,
-    }
-}
-
-// The number of the block that the view of the row entered at a place names; 0 where there is none.
-fn asks(views: &[u8], places: &[u32], place: usize) -> usize
-    ensures { λ k. ⌜ (place < length (now (places .entry)) → (getD (now (places .entry)) place 0 ≡ 0 → ⊥)
-        → 16 * (getD (now (places .entry)) place 0 - 1) + 16 ≤ length (now (views .entry))
-        → k ≡ blockOf (viewAt (now (views .entry)) (getD (now (places .entry)) place 0 - 1))) ⌝ }
-{
-    if places.len() <= place {
-        return 0;
-    }
-    let e = places[place] as usize;
-    if e == 0 {
-        return 0;
-    }
-    named(views, e - 1)
-}
-
-// Whether row r is there and shows x, which is long, by the record that the table has of its block.
-fn shows_with(s: State, views: &[u8], bytes: &[u8], x: &[u8], r: usize, b: Block) -> bool
-    ensures { λ y. ⌜ ((ss ns : List ℕ) → Ready s (now (views .entry)) ss ns → allBlocks s ≤ blockLimit → 12 < length (now (x .entry))
-        → (r < s .rows → Names (now (views .entry)) r b ss ns)
-        → y ≡ showsRow s (bare (now (views .entry)) (now (bytes .entry)) ss ns) (now (x .entry)) r) ⌝ }
-{
-    let blocks = s.blocks;
-    if s.rows <= r {
-        return false;
-    }
-    if views.len() / views::VIEW_SIZE <= r {
-        return false;
-    }
-    if bounds::BLOCK_LIMIT < blocks {
-        return false;
-    }
-    let len = views::view_len(views, r);
-    if len != x.len() {
-        return false;
-    }
-    let k = views::view_block(views, r);
-    if builder::all_blocks(s) <= k {
-        return false;
-    }
-    let d = record_or(s, k, b);
-    let start = d.start;
-    let size = d.len;
-    if !column::in_data(bytes, start, size) {
-        return false;
-    }
-    let o = views::view_offset(views, r);
-    if size < o + len {
-        return false;
-    }
-    let a = start + o;
-    let e = a + len;
-    order::same(&bytes[a..e], x)
-}
-
-// A search after its next place, by the record of the block that the view of the row entered there names.
-fn turn(s: State, views: &[u8], bytes: &[u8], places: &[u32], x: &[u8], q: Quest, b: Block) -> Quest
-    ensures { λ r. ⌜ (0 < q .left → r .left < q .left)
-        × ((ss ns : List ℕ) → Ready s (now (views .entry)) ss ns → allBlocks s ≤ blockLimit → 12 < length (now (x .entry))
-        → q .place < length (now (places .entry)) → 0 < q .left
-        → ((getD (now (places .entry)) (q .place) 0 ≡ 0 → ⊥) → getD (now (places .entry)) (q .place) 0 - 1 < s .rows
-        → Names (now (views .entry)) (getD (now (places .entry)) (q .place) 0 - 1) b ss ns)
-        → (rest (now (places .entry)) (showsRow s (bare (now (views .entry)) (now (bytes .entry)) ss ns) (now (x .entry))) r
-        ≡ rest (now (places .entry)) (showsRow s (bare (now (views .entry)) (now (bytes .entry)) ss ns) (now (x .entry))) q)
-        × (0 < r .left → r .place < length (now (places .entry)))) ⌝ }
-{
-    let p = q.place;
-    let left = q.left;
-    let n = places.len();
-    if left == 0 {
-        return q;
-    }
-    if n <= p {
-        return Quest {
-            place: 0,
-            left: 0,
-            found: Found::Full,
-        };
-    }
-    let e = places[p] as usize;
-    if e == 0 {
-        return Quest {
-            place: 0,
-            left: 0,
-            found: Found::Free(p),
-        };
-    }
-    if shows_with(s, views, bytes, x, e - 1, b) {
-        return Quest {
-            place: 0,
-            left: 0,
-            found: Found::Row(e - 1),
-        };
-    }
-    let t = values::next_place(n, p);
-    Quest {
-        place: t,
-        left: left - 1,
-        found: Found::Full,
-    }
-}
-
-// A search followed to its end: each place that is left is looked at once at most.
-fn follow(
-    s: State,
-    views: &[u8],
-    bytes: &[u8],
-    table: &[Block],
-    places: &[u32],
-    x: &[u8],
-    first: Quest,
-) -> Found
-    ensures { λ f. ⌜ (Going s (now (views .entry)) (now (bytes .entry)) (now (table .entry)) (now (places .entry)) (now (x .entry)) first
-        → Searched s (now (views .entry)) (now (bytes .entry)) (now (table .entry)) (now (places .entry)) (now (x .entry)) f) ⌝ }
-{
-    let mut q = first;
-    while 0 < q.left {
-        let k = asks(views, places, q.place);
-        let b = tables::block_or(table, k, Block { start: 0, len: 0 });
-        let t = turn(s, views, bytes, places, x, q, b);
-        q = t;
-    }
-    q.found
-}
-
-// What the merge table answers for x.
-fn search(s: State, views: &[u8], bytes: &[u8], table: &[Block], places: &[u32], x: &[u8]) -> Found
-    ensures { λ f. ⌜ Searched s (now (views .entry)) (now (bytes .entry)) (now (table .entry)) (now (places .entry)) (now (x .entry)) f ⌝ }
-{
-    let q = begin(s, places, x);
-    follow(s, views, bytes, table, places, x, q)
-}
-
-// A value is added.
-pub fn append_value(
-    s: State,
-    views: &mut [u8],
-    bytes: &mut [u8],
-    table: &mut [Block],
-    nulls: &mut [u8],
-    places: &mut [u32],
-    x: &[u8],
-) -> Answer
-    ensures { λ r. ⌜ Files (λ b. whyValues 1 b (now (x .entry))) (putValues 1 (now (x .entry))) s
-        (now (views .entry)) (now (bytes .entry)) (now (table .entry)) (now (nulls .entry)) (now (places .entry))
-        r (now (views .exit)) (now (bytes .exit)) (now (table .exit)) (now (nulls .exit)) (now (places .exit)) ⌝ }
-{
-    let f = search(s, &views[..], &bytes[..], &table[..], &places[..], x);
-    let c = table.len();
-    let r = value_with(s, views, bytes, c, nulls, places, x, 1, f);
-    tables::put_or(table, r.at, r.block);
-    r.answer
-}
-
-// A value is added n times.
-pub fn append_values(
-    s: State,
-    views: &mut [u8],
-    bytes: &mut [u8],
-    table: &mut [Block],
-    nulls: &mut [u8],
-    places: &mut [u32],
-    x: &[u8],
-    n: usize,
-) -> Answer
-    ensures { λ r. ⌜ Files (λ b. whyValues n b (now (x .entry))) (putValues n (now (x .entry))) s
-        (now (views .entry)) (now (bytes .entry)) (now (table .entry)) (now (nulls .entry)) (now (places .entry))
-        r (now (views .exit)) (now (bytes .exit)) (now (table .exit)) (now (nulls .exit)) (now (places .exit)) ⌝ }
-{
-    let f = search(s, &views[..], &bytes[..], &table[..], &places[..], x);
-    let c = table.len();
-    let r = value_with(s, views, bytes, c, nulls, places, x, n, f);
-    tables::put_or(table, r.at, r.block);
-    r.answer
 }

@@ -1,6 +1,7 @@
--- No second answer to start, the finishes and get_value: their answers and every buffer that they are lent to write. Assumes nothing.
 use mathlib.Core.Path.{sym, _∙_}
-use denote.Ref.{now}
+use mathlib.Core.List.{List}
+use Prim.Native.Nat.{ℕ}
+use denote.Ref.{ptr, now}
 use Rattle.basis.specs.Only.{Only}
 use Rattle.finishing.proofs.start.Kinds as start-kinds
 use Rattle.finishing.proofs.start.Reads as start
@@ -43,5 +44,6 @@ copy-lens κs a z z′ s s′ p q = p .0 .lens ∙ sym (q .0 .lens)
 pub why-answer : Only why-kinds.ps why-kinds.r why.Post (λ κs z s. z)
 why-answer κs a z z′ s s′ p q = p ∙ sym q
 
-pub get-value : Only get-kinds.ps get-kinds.r get.Post (λ κs z s. now z)
-get-value κs a z z′ s s′ p q = p .0 ∙ sym (q .0)
+-- of a part, also which one it is
+pub get-value : Only get-kinds.ps get-kinds.r {X = (ℕ × ℕ) × List ℕ} get.Post (λ κs z s. (ptr z, now z))
+get-value κs a z z′ s s′ p q = λ i. ((p .1 ∙ sym (q .1)) i, (p .0 ∙ sym (q .0)) i)

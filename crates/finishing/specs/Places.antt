@@ -1,19 +1,18 @@
--- Where the value of a row stands: in the views where it is short, in the data where it is long. Assumes nothing.
-use mathlib.Core.Path.{_≡_}
-use mathlib.Core.List.{List}
-use Prim.Native.Nat.{ℕ, _+_, _*_, _≤_, _<_}
-use lib.ListN.{getD}
-use Rattle.basis.specs.Pick.{ifLt}
-use Rattle.views.specs.View.{shortMost, lengthOf, blockOf, offsetOf}
+-- Where the value of a row stands while it is built, and where the part is that get_value answers. Assumes nothing.
+use Prim.Native.Nat.{ℕ}
+use Rattle.bounds.specs.Refusals.{ifAccepted}
+use Rattle.views.specs.View.{viewAt}
+use Rattle.column.specs.declared.Spot.{Spot}
+use Rattle.column.specs.Lent.{Lent}
+use Rattle.column.specs.Spot.{spotIn, pointsTo, further}
 use Rattle.builder.specs.declared.State.{State}
+use Rattle.builder.specs.State.{Builder, allBlocks, recorded}
+use Rattle.builder.specs.Get.{whyGet}
 
--- where in the data the value of a long view stands: its block's start, the open block after the completed ones, and its offset
-unfoldable pub placed : State → List ℕ → List ℕ → ℕ
-placed s starts v = ifLt (blockOf v) (s .blocks) (getD starts (blockOf v) 0) (s .base) + offsetOf v
+-- the open block under the next number
+abbrev pub spotRow : State → Lent → ℕ → Spot
+spotRow s l r = spotIn (recorded s l) (allBlocks s) (viewAt (l .views) r) r
 
--- a part at y, of the views at v where the view of row r is short, else of the data at d, `at` bytes from its start
-pub record Stands (view : List ℕ) (r at : ℕ) (v d y : ℕ × ℕ) : Type 0 where
-  pub short-slice : lengthOf view ≤ shortMost → y .0 ≡ v .0
-  pub short-place : lengthOf view ≤ shortMost → y .1 ≡ v .1 + (16 * r + 4)
-  pub long-slice : shortMost < lengthOf view → y .0 ≡ d .0
-  pub long-place : shortMost < lengthOf view → y .1 ≡ d .1 + at
+-- by where the views and the data are; a refused part is an empty one of the views, at their start
+unfoldable pub getPoints : Builder → ℕ → ℕ × ℕ → ℕ × ℕ → ℕ × ℕ
+getPoints b r views bytes = ifAccepted (whyGet b r) (pointsTo views bytes (spotRow (b .state) (b .lent) r)) (further views 0)

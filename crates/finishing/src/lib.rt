@@ -1,23 +1,22 @@
 // A builder's start, its two finishes, and the value of a row while it is built. The state goes in by value and comes back; the buffers are lent.
 ghost use mathlib.Core.Path.{_≡_};
 ghost use mathlib.Core.Bool.{true, false, _&&_};
-ghost use Prim.Native.Nat.{_+_, _*_, _<_};
+ghost use Prim.Native.Nat.{_<_};
 ghost use lib.Dec.{leb};
 ghost use lib.ListN.{length, replicate};
 ghost use Rattle.bounds.specs.Bounds.{byteLimit};
 ghost use Rattle.views.specs.View.{viewAt};
+ghost use Rattle.column.specs.Lent.{tableOf};
+ghost use Rattle.column.specs.Spot.{Names};
 ghost use Rattle.column.specs.Room.{bare};
-ghost use Rattle.column.specs.Meaning.{blocksOf, shown};
-ghost use Rattle.column.specs.Truth.{reachable};
-ghost use Rattle.builder.specs.State.{held, allBlocks, recorded};
-ghost use Rattle.builder.specs.Rooms.{Ready};
+ghost use Rattle.builder.specs.State.{held, allBlocks};
+ghost use Rattle.builder.specs.Rooms.{Ready, openStarts, openLens};
 ghost use Rattle.builder.specs.Get.{whyGet, getValue};
 ghost use Rattle.builder.specs.Start.{lawfulSizes, lawfulMerging, growthOf, isOff, emptyState, cleared, whyStart, startState, startPlaces};
 ghost use Rattle.builder.specs.Finish.{whyFinish, copied, finished, finishColumn};
 ghost use Rattle.builder.specs.Does.{Does, answer};
 ghost use denote.Ref.{ptr};
-ghost use Rattle.bounds.specs.Refusals.{isAccepted};
-ghost use Rattle.finishing.specs.Places.{Stands, placed};
+ghost use Rattle.finishing.specs.Places.{spotRow, getPoints};
 use bounds::Refusal;
 use bounds::Why;
 use builder::Answer;
@@ -25,8 +24,10 @@ use builder::Merging;
 use builder::Settings;
 use builder::Sizes;
 use builder::State;
+use column::Block;
 use column::Column;
 use column::Kind;
+use column::Spot;
 use growth::Growth;
 
 // What a finish answers: its verdict beside the state that it leaves, and the column that was built, none where it is refused.
@@ -249,59 +250,41 @@ pub fn finish(
     }
 }
 
-// Whether the view of a row that is there is reachable, the open block under the next number.
-fn reaches(s: State, views: &[u8], bytes: &[u8], starts: &[usize], lens: &[usize], r: usize) -> bool
+// The record of the block that the view of a row names, the open block under the next number; an empty one where it names none.
+fn record_row(s: State, views: &[u8], starts: &[usize], lens: &[usize], r: usize) -> Block
     requires { ⌜ Ready s (now views) (now starts) (now lens) × (r < s .rows) ⌝ }
-    ensures { λ y. ⌜ y ≡ reachable (recorded s (bare (now (views .entry)) (now (bytes .entry)) (now (starts .entry)) (now (lens .entry))))
-        (allBlocks s) (viewAt (now (views .entry)) r) ⌝ }
+    ensures { λ b. ⌜ Names (tableOf (openStarts s (now (starts .entry))) (openLens s (now (lens .entry)))) (allBlocks s) (viewAt (now (views .entry)) r) b ⌝ }
 {
     let blocks = s.blocks;
     let base = s.base;
     let fill = s.fill;
-    let len = views::view_len(views, r);
-    if len <= views::SHORT_MOST {
-        return true;
+    if views::view_len(views, r) <= views::SHORT_MOST {
+        return Block { start: 0, len: 0 };
     }
     let k = views::view_block(views, r);
     if builder::all_blocks(s) <= k {
-        return false;
+        return Block { start: 0, len: 0 };
     }
-    let start = builder::at_or(starts, blocks, base, k);
-    let size = builder::at_or(lens, blocks, fill, k);
-    if !column::in_data(bytes, start, size) {
-        return false;
+    Block {
+        start: builder::at_or(starts, blocks, base, k),
+        len: builder::at_or(lens, blocks, fill, k),
     }
-    views::view_offset(views, r) + len <= size
 }
 
-// The value that a reachable view shows: a part of the views where it is short, of the data where it is long.
-fn part<'a>(
+// Where the value of a row stands while it is built.
+pub fn spot_row(
     s: State,
-    views: &'a [u8],
-    bytes: &'a [u8],
+    views: &[u8],
+    bytes: &[u8],
     starts: &[usize],
     lens: &[usize],
     r: usize,
-) -> &'a [u8]
-    requires { ⌜ Ready s (now views) (now starts) (now lens) × (r < s .rows)
-        × (reachable (recorded s (bare (now views) (now bytes) (now starts) (now lens))) (allBlocks s) (viewAt (now views) r) ≡ true) ⌝ }
-    ensures { λ y. ⌜ (now y ≡ shown (blocksOf (recorded s (bare (now (views .entry)) (now (bytes .entry)) (now (starts .entry)) (now (lens .entry))))
-        (allBlocks s)) (viewAt (now (views .entry)) r))
-        × Stands (viewAt (now (views .entry)) r) r (placed s (now (starts .entry)) (viewAt (now (views .entry)) r)) (ptr (views .entry))
-        (ptr (bytes .entry)) (ptr y) ⌝ }
+) -> Spot
+    requires { ⌜ Ready s (now views) (now starts) (now lens) × (r < s .rows) ⌝ }
+    ensures { λ y. ⌜ y ≡ spotRow s (bare (now (views .entry)) (now (bytes .entry)) (now (starts .entry)) (now (lens .entry))) r ⌝ }
 {
-    let blocks = s.blocks;
-    let base = s.base;
-    let len = views::view_len(views, r);
-    if len <= views::SHORT_MOST {
-        let a = views::VIEW_SIZE * r + 4;
-        let e = a + len;
-        return &views[a..e];
-    }
-    let k = views::view_block(views, r);
-    let a = builder::at_or(starts, blocks, base, k) + views::view_offset(views, r);
-    let e = a + len;
-    &bytes[a..e]
+    let b = record_row(s, views, starts, lens, r);
+    column::spot_with(views, r, builder::all_blocks(s), column::room_of(bytes), b)
 }
 
 // The question beside `get_value`: why a row's value is refused.
@@ -325,7 +308,7 @@ pub fn why_get(
     if rows <= r {
         return Why::Refused(Refusal::Row);
     }
-    if !reaches(s, views, bytes, starts, lens, r) {
+    if !column::is_reached(spot_row(s, views, bytes, starts, lens, r)) {
         return Why::Refused(Refusal::BadView(r));
     }
     Why::Accepted
@@ -344,13 +327,11 @@ pub fn get_value<'a>(
 ) -> &'a [u8]
     ensures { λ y. ⌜ (now y ≡ getValue (held s (now (views .entry)) (now (bytes .entry)) (now (starts .entry)) (now (lens .entry))
         (now (nulls .entry)) (now (places .entry))) r)
-        × (isAccepted (whyGet (held s (now (views .entry)) (now (bytes .entry)) (now (starts .entry)) (now (lens .entry)) (now (nulls .entry))
-        (now (places .entry))) r) ≡ true
-        → Stands (viewAt (now (views .entry)) r) r (placed s (now (starts .entry)) (viewAt (now (views .entry)) r)) (ptr (views .entry))
-        (ptr (bytes .entry)) (ptr y)) ⌝ }
+        × (ptr y ≡ getPoints (held s (now (views .entry)) (now (bytes .entry)) (now (starts .entry)) (now (lens .entry)) (now (nulls .entry))
+        (now (places .entry))) r (ptr (views .entry)) (ptr (bytes .entry))) ⌝ }
 {
     if !bounds::is_accepted(why_get(s, views, bytes, starts, lens, nulls, places, r)) {
         return &views[0..0];
     }
-    part(s, views, bytes, starts, lens, r)
+    column::part_of(views, bytes, spot_row(s, views, bytes, starts, lens, r))
 }

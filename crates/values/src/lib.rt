@@ -24,7 +24,6 @@ use builder::Answer;
 use builder::Merging;
 use builder::State;
 use column::Kind;
-use growth::Growth;
 use merging::Found;
 
 // 4, 10 and 5 for a value as so many rows more.

@@ -73,9 +73,13 @@ listed rs = opening ++ (body rs ++ closing (length rs) (nullsIn rs) (bytesIn rs)
 unfoldable pub answerLines : List (List ℕ) → List ℕ
 answerLines ls = pick (eqb (firstBad 0 ls) 0) (listed (map rowOf ls)) (refusedLine (firstBad 0 ls))
 
--- more than 16,384 bytes of input are refused before any line is read
+-- how many bytes of input there may be
+abbrev pub inputMost : ℕ
+inputMost = 16384
+
+-- more input is refused before any line is read
 unfoldable pub answer : List ℕ → List ℕ
-answer s = pick (ltb 16384 (length s)) (refusedLine 0) (answerLines (lines s))
+answer s = pick (ltb inputMost (length s)) (refusedLine 0) (answerLines (lines s))
 
 -- ---- the same of a column
 

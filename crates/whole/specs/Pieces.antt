@@ -19,7 +19,7 @@ use Rattle.shelf.specs.declared.Item.{Item}
 use Rattle.shelf.specs.declared.Item.the-variants as item
 use Rattle.shelf.specs.Items.{itemCount, itemAt}
 use Rattle.shelf.specs.ItemLaws.{count-few, count-many, item-few, item-first, item-gap, item-last}
-use Rattle.whole.specs.Answer.{Row, row, rowOf, rowLines, body, nullsIn, bytesIn, blockBytesIn, blocksIn, listed, answerLines, answer, isValid, rowAt, rowsFrom, rowsOf, numberOf, closingOf, listedColumn}
+use Rattle.whole.specs.Answer.{Row, row, rowOf, rowLines, body, nullsIn, bytesIn, blockBytesIn, blocksIn, listed, answerLines, answer, isValid, rowAt, rowsFrom, rowsOf, numberOf, closingOf, listedColumn, inputMost}
 use Rattle.shelf.specs.Lines.{lines, firstBad}
 use Rattle.column.specs.declared.Column.{Column}
 use Rattle.column.specs.Lent.{Lent, fits}
@@ -154,18 +154,18 @@ pub record Shows (l : Lent) (c : Column) (rs : List Row) : Type 0 where
   pub blocks : c .blocks ≡ blocksIn rs
 
 -- a column that shows the lines' rows is listed as the answer to them
-pub answered : (l : Lent) (c : Column) (s : List ℕ) → length s ≤ 16384 → firstBad 0 (lines s) ≡ 0 → Shows l c (map rowOf (lines s)) → listedColumn l c
+pub answered : (l : Lent) (c : Column) (s : List ℕ) → length s ≤ inputMost → firstBad 0 (lines s) ≡ 0 → Shows l c (map rowOf (lines s)) → listedColumn l c
     ≡ answer s
 unfolding answer answerLines listed listedColumn
 answered l c s h g w =
     let n : c .rows ≡ length (map rowOf (lines s)) = sym (length-rows l c) ∙ ap length (w .rows) in
-    rw (le-ltb 16384 (length s) h, g) (λ i. opening ++ (body (w .rows i) ++ closing (n i) (w .nulls i) (w .bytes i) (w .long i) (w .blocks i)))
+    rw (le-ltb inputMost (length s) h, g) (λ i. opening ++ (body (w .rows i) ++ closing (n i) (w .nulls i) (w .bytes i) (w .long i) (w .blocks i)))
 
 -- the two refusals
-pub answered-size : (s : List ℕ) → 16384 < length s → refusedLine 0 ≡ answer s
+pub answered-size : (s : List ℕ) → inputMost < length s → refusedLine 0 ≡ answer s
 unfolding answer
-answered-size s h = rw (lt-ltb 16384 (length s) h)
+answered-size s h = rw (lt-ltb inputMost (length s) h)
 
-pub answered-bad : (s : List ℕ) (n : ℕ) → length s ≤ 16384 → n ≡ firstBad 0 (lines s) → (n ≡ 0 → ⊥) → refusedLine n ≡ answer s
+pub answered-bad : (s : List ℕ) (n : ℕ) → length s ≤ inputMost → n ≡ firstBad 0 (lines s) → (n ≡ 0 → ⊥) → refusedLine n ≡ answer s
 unfolding answer answerLines
-answered-bad s n h e g = rw (le-ltb 16384 (length s) h, ← e, ne-eqb n 0 g)
+answered-bad s n h e g = rw (le-ltb inputMost (length s) h, ← e, ne-eqb n 0 g)

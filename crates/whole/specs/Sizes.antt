@@ -11,6 +11,7 @@ use Rattle.basis.specs.Pick.{pick}
 use Rattle.shelf.specs.declared.Line.the-variants.{Bad}
 use Rattle.shelf.specs.Lines.{onFirst, lines, says, isBad, valueOf, firstBad}
 use Rattle.shelf.specs.LineLaws.{says-short}
+use Rattle.whole.specs.Answer.{inputMost}
 
 -- the bytes of lines with their line ends
 unfoldable pub sizes : List (List ℕ) → ℕ
@@ -62,7 +63,7 @@ at-most [] k = omega arith
 at-most (l ∷ ls) k = omega arith
 
 -- the views, the map and the data that the program lends hold every accepted input
-pub rooms : (s : List ℕ) → length s ≤ 16384 → firstBad 0 (lines s) ≡ 0 → (length (lines s) ≤ 2730) × (valueBytes (lines s) ≤ 16379)
+pub rooms : (s : List ℕ) → length s ≤ inputMost → firstBad 0 (lines s) ≡ 0 → (length (lines s) ≤ 2730) × (valueBytes (lines s) ≤ 16379)
 rooms s h g =
     let a = lines-size s in
     let b = good-sizes 0 (lines s) g in

@@ -27,11 +27,11 @@ build-requires c κs = search needs
 
 returns-3 : tie.Need-returns-3
 returns-3 c =
-    let b8 = c .before .before .before .before .before .before .before .before in let b9 = b8 .before in
     begins-listed _ _ _ _ _ _ _
     (record { views = search needs; bytes = search needs; starts = search needs; lens = search needs; nulls = search needs })
-    (b9 .if1 .left)
-    (sym (b8 .first-bad .ensures) ∙ c .before .before .before .before .before .before .before .if2 .left)
+    (c .before .before .before .before .before .before .before .before .before .if1 .left)
+    (sym (c .before .before .before .before .before .before .before .before .first-bad .ensures)
+    ∙ c .before .before .before .before .before .before .before .if2 .left)
     (c .build .ensures)
 
 pub begin-spec : {M : Type 1} → statement M

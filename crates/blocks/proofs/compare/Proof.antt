@@ -50,7 +50,7 @@ use Rattle.comparison.proofs.Compared.Laws as Q′
 use Rattle.column.proofs.Seen as S
 use Rattle.column.proofs.Seen.Laws as S′
 use Rattle.blocks.proofs.AskLook as ask
-use Rattle.blocks.proofs.AskLook.{Look, column-val}
+use Rattle.blocks.proofs.AskLook.{Look, column-val as of-column}
 use Rattle.blocks.proofs.look as G
 use Rattle.blocks.proofs.look.Symbol as G-def
 use Rattle.blocks.proofs.look.Symbol.{name as #blocks·look}
@@ -114,9 +114,9 @@ module _ {M : Type 1} (𝓤 : URA M) (H : Heap 𝓤) (A : Atoms 𝓤) (W : Given
     (x y : RefT (List ℕ)) (t : RefT (List Block)) (z : RefT (List ℕ)) (c : Column) (i : ℕ) (x2 y2 : RefT (List ℕ)) (t2 : RefT (List Block))
     (z2 : RefT (List ℕ)) (d : Column) (j : ℕ)
     (gx : Room u8 (length (now x))) (gy : Room u8 (length (now y))) (gt : Room T.the-row (length (now t))) (gz : Room u8 (length (now z)))
-    (gc : Is K.the-row c (column-val c ∷ [])) (gi : i < 2 ^ 64)
+    (gc : Is K.the-row c (of-column c ∷ [])) (gi : i < 2 ^ 64)
     (gx2 : Room u8 (length (now x2))) (gy2 : Room u8 (length (now y2))) (gt2 : Room T.the-row (length (now t2))) (gz2 : Room u8 (length (now z2)))
-    (gd : Is K.the-row d (column-val d ∷ [])) (gj : j < 2 ^ 64) where
+    (gd : Is K.the-row d (of-column d ∷ [])) (gj : j < 2 ^ 64) where
   abbrev a : RefT (List ℕ)
       × (RefT (List ℕ) × (RefT (List Block)
       × (RefT (List ℕ) × (Column × (ℕ × (RefT (List ℕ) × (RefT (List ℕ) × (RefT (List Block) × (RefT (List ℕ) × (Column × (ℕ × Unit {0})))))))))))
@@ -131,7 +131,7 @@ module _ {M : Type 1} (𝓤 : URA M) (H : Heap 𝓤) (A : Atoms 𝓤) (W : Given
         slice-vals t,
         (
           slice-vals z,
-          (column-val c ∷ [], (vint w64 i ∷ [], (slice-vals x2, (slice-vals y2, (slice-vals t2, (slice-vals z2, (column-val d ∷ [], (vint w64 j ∷ [], tt)))))))),
+          (of-column c ∷ [], (vint w64 i ∷ [], (slice-vals x2, (slice-vals y2, (slice-vals t2, (slice-vals z2, (of-column d ∷ [], (vint w64 j ∷ [], tt)))))))),
         ),
       ),
     ),
@@ -139,8 +139,8 @@ module _ {M : Type 1} (𝓤 : URA M) (H : Heap 𝓤) (A : Atoms 𝓤) (W : Given
 
   abbrev passed : List Val
   passed = sliceVal (x .ptr) (length (now x)) ∷ sliceVal (y .ptr) (length (now y)) ∷ sliceVal (t .ptr) (length (now t)) ∷ sliceVal (z .ptr)
-      (length (now z)) ∷ column-val c ∷ vint w64 i ∷ sliceVal (x2 .ptr) (length (now x2)) ∷ sliceVal (y2 .ptr) (length (now y2)) ∷ sliceVal (t2 .ptr)
-      (length (now t2)) ∷ sliceVal (z2 .ptr) (length (now z2)) ∷ column-val d ∷ vint w64 j ∷ []
+      (length (now z)) ∷ of-column c ∷ vint w64 i ∷ sliceVal (x2 .ptr) (length (now x2)) ∷ sliceVal (y2 .ptr) (length (now y2)) ∷ sliceVal (t2 .ptr)
+      (length (now t2)) ∷ sliceVal (z2 .ptr) (length (now z2)) ∷ of-column d ∷ vint w64 j ∷ []
 
   abbrev Post : Val → SProp 𝓤
   Post = walkOf 𝓤 H A F.ended stayed (F.clauses 𝓤 H A mem run) .post (((κ, tt), (q, tt), tt, a, at), tt)
@@ -153,7 +153,7 @@ module _ {M : Type 1} (𝓤 : URA M) (H : Heap 𝓤) (A : Atoms 𝓤) (W : Given
   Tb s = ShrSlice (named 0) κ T.the-row .own s (slice-vals s)
 
   abbrev Rest2 : Fml
-  Rest2 = fsep (K.the-row .own d (column-val d ∷ [])) (fsep (usize .own j (vint w64 j ∷ [])) ftrue)
+  Rest2 = fsep (K.the-row .own d (of-column d ∷ [])) (fsep (usize .own j (vint w64 j ∷ [])) ftrue)
 
   -- what the result is, over tables that the rows see so
   abbrev Good : List Block → List Block → Compared → Type 0
@@ -173,8 +173,8 @@ module _ {M : Type 1} (𝓤 : URA M) (H : Heap 𝓤) (A : Atoms 𝓤) (W : Given
         (
           slice-vals z,
           (
-            column-val c ∷ [],
-            (vint w64 i ∷ [], (u ∷ [], (slice-vals x2, (slice-vals y2, (slice-vals z2, (column-val d ∷ [], (vint w64 j ∷ [], (u2 ∷ [], tt)))))))),
+            of-column c ∷ [],
+            (vint w64 i ∷ [], (u ∷ [], (slice-vals x2, (slice-vals y2, (slice-vals z2, (of-column d ∷ [], (vint w64 j ∷ [], (u2 ∷ [], tt)))))))),
           ),
         ),
       ),
@@ -197,11 +197,11 @@ module _ {M : Type 1} (𝓤 : URA M) (H : Heap 𝓤) (A : Atoms 𝓤) (W : Given
     said₃ p = exE 𝓤 _ (λ ws. snd∗ 𝓤 (sem 𝓤 H A (lasts P.ended (κ, tt) a₃ ws)) (fact 𝓤 (Said p)))
 
   exits : (p : Compared) (u : Val) → Good (now t) (now t2) p → ent 𝓤 (⋆ 𝓤 H A (‵ (Q.the-row .own p (u ∷ [])) ∷ (‵ (flft κ q) ⊛ ‵ ftrue) ∷ ‵ (Own z2)
-      ∷ ‵ Rest2 ∷ ‵ (Tb t2) ∷ ‵ (Own y2) ∷ ‵ (Own x2) ∷ ‵ (usize .own i (vint w64 i ∷ [])) ∷ ‵ (K.the-row .own c (column-val c ∷ [])) ∷ ‵ (Own z) ∷ ‵
+      ∷ ‵ Rest2 ∷ ‵ (Tb t2) ∷ ‵ (Own y2) ∷ ‵ (Own x2) ∷ ‵ (usize .own i (vint w64 i ∷ [])) ∷ ‵ (K.the-row .own c (of-column c ∷ [])) ∷ ‵ (Own z) ∷ ‵
       (Tb t) ∷ ‵ (Own y) ∷ ‵ (Own x) ∷ [])) (Post u)
   exits p u e =
       qed W (‵ (Q.the-row .own p (u ∷ [])) ∷ (‵ (flft κ q) ⊛ ‵ ftrue) ∷ ‵ (Own z2) ∷ ‵ Rest2 ∷ ‵ (Tb t2) ∷ ‵ (Own y2) ∷ ‵ (Own x2) ∷ ‵
-      (usize .own i (vint w64 i ∷ [])) ∷ ‵ (K.the-row .own c (column-val c ∷ [])) ∷ ‵ (Own z) ∷ ‵ (Tb t) ∷ ‵ (Own y) ∷ ‵ (Own x) ∷ []) ∵
+      (usize .own i (vint w64 i ∷ [])) ∷ ‵ (K.the-row .own c (of-column c ∷ [])) ∷ ‵ (Own z) ∷ ‵ (Tb t) ∷ ‵ (Own y) ∷ ‵ (Own x) ∷ []) ∵
       suffices ! _ (ends-at 𝓤 H A F.ended stayed (F.clauses 𝓤 H A mem run) W (((κ, tt), (q, tt), tt, a, at), tt) u p
       (tt, (tt, (tt, (tt, (tt, (tt, (tt, (tt, (tt, (tt, (tt, (tt, tt))))))))))))
       (tt, (tt, (tt, (tt, (tt, (tt, (tt, (tt, (tt, (tt, (tt, (tt, tt))))))))))))) $ says ! e $

@@ -3,6 +3,7 @@ use Rattle.finishing.specs.GetLaws.{got}
 use Rattle.builder.specs.RoomLaws.{fits-gives, ready}
 use Rattle.bounds.specs.Refusals.{isAccepted}
 use mathlib.Core.Path.{sym, ap, _∙_}
+use Rattle.builder_exports.specs.Numbers.{placeOf}
 use Rattle.builder_exports.specs.NumberLaws.{got-not, got-there}
 use denote.Ref.{now}
 use borrow.Author.Needs.{needs}
@@ -31,15 +32,19 @@ returns c = rw (c .before .before .before .before .before .state-of .ensures) at
 enum-told : tie.Need-enum-told
 enum-told c = search needs
 
-place-of-requires : tie.Need-place-of-requires
-place-of-requires c κs = let a = c .before .before .before .before .before .before .before .before .before .before .args in
+spot-row-requires : tie.Need-spot-row-requires
+spot-row-requires c κs = let a = c .before .before .before .before .before .before .before .before .before .before .args in
     let g = got (c .before .before .before .state-of .result) (now (a .views)) (now (a .bytes)) (now (a .starts)) (now (a .lens)) (now (a .nulls))
     (now (a .places)) (a .row) (ap isAccepted (sym (c .before .before .why-get .ensures) ∙ c .enum-told .given .1)) in
-    (ready _ _ _ _ _ _ _ (fits-gives _ _ _ _ _ _ _ (g .fit)), g .row, g .reach)
+    (ready _ _ _ _ _ _ _ (fits-gives _ _ _ _ _ _ _ (g .fit)), g .row)
+
+place-of-requires : tie.Need-place-of-requires
+place-of-requires c κs = search needs
 
 returns-2 : tie.Need-returns-2
-returns-2 c = rw (c .before .before .before .before .state-of .ensures) at (got-there _ _ _ _ _ _ _ _ _ (c .before .before .before .why-get .ensures)
-    (c .before .enum-told .given .1) _ (c .place-of .ensures))
+returns-2 c = rw (c .before .before .before .before .before .state-of .ensures) at (got-there _ _ _ _ _ _ _ _ _
+    (c .before .before .before .before .why-get .ensures) (c .before .before .enum-told .given .1) _
+    (c .place-of .ensures ∙ ap placeOf (c .before .spot-row .ensures)))
 
 pub tambuyeel-get-value-spec : {M : Type 1} → statement M
 tambuyeel-get-value-spec =
@@ -52,5 +57,6 @@ tambuyeel-get-value-spec =
     cast-t13
     returns
     enum-told
+    spot-row-requires
     place-of-requires
     returns-2)

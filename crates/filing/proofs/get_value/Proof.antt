@@ -24,7 +24,7 @@ use denote.RattleType.{owns}
 use denote.Laws.{Is, shows}
 use denote.Plain.{uint-makes, uint-vals, uint-tells, uint-lawful}
 use denote.Builtin.{usize, u8, u32}
-use denote.Ref.{RefT, now}
+use denote.Ref.{ptr, RefT, now}
 use denote.Slice.{sliceVal, ShrSlice, Room, slice-vals, shr-slice-tells, shr-slice-copy, shr-slice-lawful}
 use denote.Signature.{plain}
 use denote.Steps.{owned, nothing, peeks, heard, only}
@@ -39,6 +39,7 @@ use denote.Triple.Call.{calls-at}
 use denote.Triple.Clauses.{ensured, lasts}
 use denote.Struct.Laws as LL
 use Rattle.builder.specs.Get.{getValue}
+use Rattle.finishing.specs.Places.{getPoints}
 use Rattle.builder.specs.declared.State.{State}
 use Rattle.column.specs.Lent.{block}
 use Rattle.column.specs.declared.Block.{Block}
@@ -188,7 +189,8 @@ module _ {M : Type 1} (𝓤 : URA M) (H : Heap 𝓤) (A : Atoms 𝓤) (W : Given
 
   abbrev Said3 : (r1 : ℕ) (u1 : Val) (r2 : Block) (u2 : Val) (r3 : RefT (List ℕ)) → Type 0
   Said3 r1 u1 r2 u2 r3 = ((t : List Block) → (length (now table)) ≡ length t → Sees (now views) r r2 t
-      → now r3 ≡ getValue (filed s (now views) (now bytes) t (now nulls) (now places)) r)
+      → (now r3 ≡ getValue (filed s (now views) (now bytes) t (now nulls) (now places)) r)
+      × (ptr r3 ≡ getPoints (filed s (now views) (now bytes) t (now nulls) (now places)) r (ptr views) (ptr bytes)))
 
   module _ (C : Calls 𝓤 H) (Λ : Loops 𝓤 H) (fm : FmC 𝓤 H (W .laws) C) (known1 : Triple 𝓤 (C #Cnamed) (Cnamed 𝓤 H A mem run))
       (known2 : Triple 𝓤 (C #Cblockor) (Cblockor 𝓤 H A mem run)) (known3 : Triple 𝓤 (C #Cgetwith) (Cgetwith 𝓤 H A mem run)) where

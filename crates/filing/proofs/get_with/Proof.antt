@@ -1,8 +1,9 @@
-use Rattle.filing.specs.FilesLaws.{fitted}
-use Rattle.filing.specs.RowLaws.{why-fit, why-late, why-bad, got-none, got-value, reached}
-use borrow.Author.Tests.{not-true, not-false}
+-- `filing::get_with` meets its contract. Assumes nothing.
+use denote.Ref.{now, ptr}
+use Rattle.filing.specs.RowLaws.{why-fit, why-late, why-bad, got-none, got-part}
 use mathlib.Core.Path.{refl, sym, _∙_}
-use denote.Ref.{now}
+use borrow.Author.Tests.{not-true, not-false}
+use Rattle.filing.specs.FilesLaws.{fitted}
 use borrow.Author.Needs.{needs}
 use Rattle.filing.proofs.get_with.Statement.{statement}
 use Rattle.filing.proofs.get_with.Tie as tie
@@ -21,11 +22,10 @@ part-result-end c = search needs
 
 returns : tie.Need-returns
 returns c =
-    let b7 = c .before .before .before .before .before .before .before in
-    got-none (b7 .args .s) (now (b7 .args .views)) (now (b7 .args .bytes)) (now (b7 .args .nulls)) (now (b7 .args .places)) (b7 .args .count)
-    (b7 .args .r) (b7 .args .b) _ _ (why-fit (b7 .args .s) (now (b7 .args .views)) (now (b7 .args .bytes)) (now (b7 .args .nulls))
-    (now (b7 .args .places)) (b7 .args .count) (b7 .args .r) (b7 .args .b) (sym (c .before .before .fits-with .ensures)
-    ∙ not-true _ (c .before .if1 .taken))) refl refl
+    let a = c .before .before .before .before .before .before .before .args in
+    got-none (a .s) (now (a .views)) (now (a .bytes)) (now (a .nulls)) (now (a .places)) (a .count) (a .r) (a .b) _ _ (ptr (a .views))
+    (ptr (a .bytes)) _ (why-fit (a .s) (now (a .views)) (now (a .bytes)) (now (a .nulls)) (now (a .places)) (a .count) (a .r) (a .b)
+    (sym (c .before .before .fits-with .ensures) ∙ not-true _ (c .before .if1 .taken))) refl refl refl
 
 sub-result-2 : tie.Need-sub-result-2
 sub-result-2 c = search needs
@@ -38,17 +38,20 @@ part-result-end-2 c = search needs
 
 returns-2 : tie.Need-returns-2
 returns-2 c =
-    let b8 = c .before .before .before .before .before .before .before .before in
-    got-none (b8 .args .s) (now (b8 .args .views)) (now (b8 .args .bytes)) (now (b8 .args .nulls)) (now (b8 .args .places)) (b8 .args .count)
-    (b8 .args .r) (b8 .args .b) _ _ (why-late (b8 .args .s) (now (b8 .args .views)) (now (b8 .args .bytes)) (now (b8 .args .nulls))
-    (now (b8 .args .places)) (b8 .args .count) (b8 .args .r) (b8 .args .b) (sym (c .before .before .before .fits-with .ensures)
-    ∙ not-false _ (c .before .before .if1 .left)) (c .before .if2 .taken)) refl refl
+    let a = c .before .before .before .before .before .before .before .before .args in
+    got-none (a .s) (now (a .views)) (now (a .bytes)) (now (a .nulls)) (now (a .places)) (a .count) (a .r) (a .b) _ _ (ptr (a .views))
+    (ptr (a .bytes)) _ (why-late (a .s) (now (a .views)) (now (a .bytes)) (now (a .nulls)) (now (a .places)) (a .count) (a .r) (a .b)
+    (sym (c .before .before .before .fits-with .ensures) ∙ not-false _ (c .before .before .if1 .left)) (c .before .if2 .taken)) refl refl refl
 
-reach-row-requires : tie.Need-reach-row-requires
-reach-row-requires c κs =
-    let b7 = c .before .before .before .before .before .before .before in
-    let f = fitted (b7 .args .s) (now (b7 .args .views)) (now (b7 .args .bytes)) (now (b7 .args .nulls)) (now (b7 .args .places)) (b7 .args .count)
-    (sym (c .before .before .fits-with .ensures) ∙ not-false _ (c .before .if1 .left)) in (f .views, c .if2 .left, f .blocks)
+spot-row-requires : tie.Need-spot-row-requires
+spot-row-requires c κs =
+    let a = c .before .before .before .before .before .before .before .args in
+    let f = fitted (a .s) (now (a .views)) (now (a .bytes)) (now (a .nulls)) (now (a .places)) (a .count) (sym (c .before .before .fits-with .ensures)
+    ∙ not-false _ (c .before .if1 .left)) in
+    (f .views, c .if2 .left, f .blocks)
+
+is-reached-requires : tie.Need-is-reached-requires
+is-reached-requires c κs = search needs
 
 sub-result-3 : tie.Need-sub-result-3
 sub-result-3 c = search needs
@@ -61,32 +64,24 @@ part-result-end-3 c = search needs
 
 returns-3 : tie.Need-returns-3
 returns-3 c =
-    let b10 = c .before .before .before .before .before .before .before .before .before .before in
-    got-none (b10 .args .s) (now (b10 .args .views)) (now (b10 .args .bytes)) (now (b10 .args .nulls)) (now (b10 .args .places)) (b10 .args .count)
-    (b10 .args .r) (b10 .args .b) _ _ (why-bad (b10 .args .s) (now (b10 .args .views)) (now (b10 .args .bytes)) (now (b10 .args .nulls))
-    (now (b10 .args .places)) (b10 .args .count) (b10 .args .r) (b10 .args .b)
-    (sym (c .before .before .before .before .before .fits-with .ensures) ∙ not-false _ (c .before .before .before .before .if1 .left))
-    (c .before .before .before .if2 .left) _ (c .before .before .reach-row .ensures) (not-true _ (c .before .if3 .taken))) refl refl
+    let a = c .before .before .before .before .before .before .before .before .before .before .before .args in
+    got-none (a .s) (now (a .views)) (now (a .bytes)) (now (a .nulls)) (now (a .places)) (a .count) (a .r) (a .b) _ _ (ptr (a .views))
+    (ptr (a .bytes)) _ (why-bad (a .s) (now (a .views)) (now (a .bytes)) (now (a .nulls)) (now (a .places)) (a .count) (a .r) (a .b)
+    (sym (c .before .before .before .before .before .before .fits-with .ensures)
+    ∙ not-false _ (c .before .before .before .before .before .if1 .left)) (c .before .before .before .before .if2 .left) _
+    (c .before .before .before .spot-row .ensures .1) (sym (c .before .before .is-reached .ensures) ∙ not-true _ (c .before .if3 .taken))) refl refl refl
 
-part-row-requires : tie.Need-part-row-requires
-part-row-requires c κs =
-    let b9 = c .before .before .before .before .before .before .before .before .before in
-    let f = fitted (b9 .args .s) (now (b9 .args .views)) (now (b9 .args .bytes)) (now (b9 .args .nulls)) (now (b9 .args .places)) (b9 .args .count)
-    (sym (c .before .before .before .before .fits-with .ensures) ∙ not-false _ (c .before .before .before .if1 .left)) in (
-      f .views,
-      c .before .before .if2 .left,
-      reached (b9 .args .s) (now (b9 .args .views)) (now (b9 .args .bytes)) (now (b9 .args .nulls))
-          (now (b9 .args .places)) (b9 .args .count) (b9 .args .r) (b9 .args .b) (sym (c .before .before .before .before .fits-with .ensures)
-          ∙ not-false _ (c .before .before .before .if1 .left)) (c .before .before .if2 .left) _ (c .before .reach-row .ensures) (not-false _ (c .if3 .left)),
-    )
+part-of-requires : tie.Need-part-of-requires
+part-of-requires c κs = c .before .before .spot-row .ensures .0
 
 returns-4 : tie.Need-returns-4
 returns-4 c =
-    let b10 = c .before .before .before .before .before .before .before .before .before .before in
-    got-value (b10 .args .s) (now (b10 .args .views)) (now (b10 .args .bytes)) (now (b10 .args .nulls)) (now (b10 .args .places)) (b10 .args .count)
-    (b10 .args .r) (b10 .args .b) (sym (c .before .before .before .before .before .fits-with .ensures)
-    ∙ not-false _ (c .before .before .before .before .if1 .left)) (c .before .before .before .if2 .left) _ (c .before .before .reach-row .ensures)
-    (not-false _ (c .before .if3 .left)) _ (c .part-row .ensures)
+    let a = c .before .before .before .before .before .before .before .before .before .before .before .args in
+    got-part (a .s) (now (a .views)) (now (a .bytes)) (now (a .nulls)) (now (a .places)) (a .count) (a .r) (a .b)
+    (sym (c .before .before .before .before .before .before .fits-with .ensures)
+    ∙ not-false _ (c .before .before .before .before .before .if1 .left)) (c .before .before .before .before .if2 .left) _
+    (c .before .before .before .spot-row .ensures .1) (sym (c .before .before .is-reached .ensures) ∙ not-false _ (c .before .if3 .left)) _
+    (ptr (a .views)) (ptr (a .bytes)) _ (c .part-of .ensures .0) (c .part-of .ensures .1)
 
 pub get-with-spec : {M : Type 1} → statement M
 get-with-spec =
@@ -101,10 +96,11 @@ get-with-spec =
     part-result-start-2
     part-result-end-2
     returns-2
-    reach-row-requires
+    spot-row-requires
+    is-reached-requires
     sub-result-3
     part-result-start-3
     part-result-end-3
     returns-3
-    part-row-requires
+    part-of-requires
     returns-4)

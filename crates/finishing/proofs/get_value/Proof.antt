@@ -1,10 +1,12 @@
-use mathlib.Core.Bool.{true≢false}
-use Rattle.builder.specs.RoomLaws.{fits-gives, ready}
-use Rattle.finishing.specs.GetLaws.{got, value-no, value-yes}
-use Rattle.bounds.specs.Refusals.{isAccepted}
-use borrow.Author.Tests.{not-true, not-false}
+-- `finishing::get_value` meets its contract. Assumes nothing.
+use Rattle.column.specs.Spot.{pointsTo}
+use denote.Ref.{now, ptr}
 use mathlib.Core.Path.{refl, sym, ap, _∙_}
-use denote.Ref.{now}
+use borrow.Author.Tests.{not-true, not-false}
+use Rattle.bounds.specs.Refusals.{isAccepted}
+use Rattle.finishing.specs.GetLaws.{got, value-no, value-yes, points-no, points-yes, row-lies, row-shown}
+use Rattle.builder.specs.RoomLaws.{fits-gives, ready}
+use native.Mathlib.Omega.{arith}
 use borrow.Author.Needs.{needs}
 use Rattle.finishing.proofs.get_value.Statement.{statement}
 use Rattle.finishing.proofs.get_value.Tie as tie
@@ -28,24 +30,40 @@ returns : tie.Need-returns
 returns c = (
   value-no _ _ _ _ _ _ _ _ _ _ (c .before .before .before .why-get .ensures) (sym (c .before .before .is-accepted .ensures)
       ∙ not-true _ (c .before .if1 .taken)) refl,
-  λ z. absurd (true≢false (sym z ∙ ap isAccepted (sym (c .before .before .before .why-get .ensures))
-      ∙ sym (c .before .before .is-accepted .ensures) ∙ not-true _ (c .before .if1 .taken))),
+  points-no _ _ _ _ _ _ _ _ _ _ _ _ (c .before .before .before .why-get .ensures) (sym (c .before .before .is-accepted .ensures)
+      ∙ not-true _ (c .before .if1 .taken)) refl,
 )
 
-part-requires : tie.Need-part-requires
-part-requires c κs =
+spot-row-requires : tie.Need-spot-row-requires
+spot-row-requires c κs =
     let a = c .before .before .before .before .before .before .before .before .before .args in
     let g = got (a .s) (now (a .views)) (now (a .bytes)) (now (a .starts)) (now (a .lens)) (now (a .nulls)) (now (a .places)) (a .r)
     (ap isAccepted (sym (c .before .before .why-get .ensures)) ∙ (sym (c .before .is-accepted .ensures) ∙ not-false _ (c .if1 .left))) in
     let f = fits-gives (a .s) (now (a .views)) (now (a .bytes)) (now (a .starts)) (now (a .lens)) (now (a .nulls)) (now (a .places)) (g .fit) in
-    (ready (a .s) (now (a .views)) (now (a .bytes)) (now (a .starts)) (now (a .lens)) (now (a .nulls)) (now (a .places)) f, g .row, g .reach)
+    (ready (a .s) (now (a .views)) (now (a .bytes)) (now (a .starts)) (now (a .lens)) (now (a .nulls)) (now (a .places)) f, g .row)
+
+part-of-requires : tie.Need-part-of-requires
+part-of-requires c κs =
+    let a = c .before .before .before .before .before .before .before .before .before .before .args in
+    let g = got (a .s) (now (a .views)) (now (a .bytes)) (now (a .starts)) (now (a .lens)) (now (a .nulls)) (now (a .places)) (a .r)
+    (ap isAccepted (sym (c .before .before .before .why-get .ensures)) ∙ (sym (c .before .before .is-accepted .ensures)
+    ∙ not-false _ (c .before .if1 .left))) in
+    let f = fits-gives (a .s) (now (a .views)) (now (a .bytes)) (now (a .starts)) (now (a .lens)) (now (a .nulls)) (now (a .places)) (g .fit) in
+    let k = ready (a .s) (now (a .views)) (now (a .bytes)) (now (a .starts)) (now (a .lens)) (now (a .nulls)) (now (a .places)) f in
+    row-lies _ _ _ _ _ _ _ (c .spot-row .ensures) (omega (arith, g .row, k .rows))
 
 returns-2 : tie.Need-returns-2
-returns-2 c = (
-  value-yes _ _ _ _ _ _ _ _ _ _ (c .before .before .before .why-get .ensures) (sym (c .before .before .is-accepted .ensures)
-      ∙ not-false _ (c .before .if1 .left)) (c .part .ensures .0),
-  λ z. c .part .ensures .1,
-)
+returns-2 c =
+    let a = c .before .before .before .before .before .before .before .before .before .before .before .args in
+    let g = got (a .s) (now (a .views)) (now (a .bytes)) (now (a .starts)) (now (a .lens)) (now (a .nulls)) (now (a .places)) (a .r)
+    (ap isAccepted (sym (c .before .before .before .before .why-get .ensures)) ∙ (sym (c .before .before .before .is-accepted .ensures)
+    ∙ not-false _ (c .before .before .if1 .left))) in (
+      value-yes _ _ _ _ _ _ _ _ _ _ (c .before .before .before .before .why-get .ensures) (sym (c .before .before .before .is-accepted .ensures)
+          ∙ not-false _ (c .before .before .if1 .left)) (c .part-of .ensures .0 ∙ row-shown _ _ _ _ _ _ _ (c .before .spot-row .ensures) (g .reach)),
+      points-yes _ _ _ _ _ _ _ _ _ _ _ _ (c .before .before .before .before .why-get .ensures) (sym (c .before .before .before .is-accepted .ensures)
+          ∙ not-false _ (c .before .before .if1 .left)) (c .part-of .ensures .1 ∙ ap (pointsTo (ptr (a .views)) (ptr (a .bytes)))
+          (c .before .spot-row .ensures)),
+    )
 
 pub get-value-spec : {M : Type 1} → statement M
 get-value-spec =
@@ -57,5 +75,6 @@ get-value-spec =
     part-result-start
     part-result-end
     returns
-    part-requires
+    spot-row-requires
+    part-of-requires
     returns-2)

@@ -1,0 +1,3 @@
+pub mod Quests
+pub mod QuestLaws
+pub mod ValueLaws

@@ -1,0 +1,4 @@
+pub mod Compacts
+pub mod Turns
+pub mod TurnLaws
+pub mod PlanLaws

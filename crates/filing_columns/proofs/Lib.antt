@@ -1,0 +1,2 @@
+mod Asks
+pub mod Only

@@ -1,8 +1,5 @@
+include!("../shared/link.rs");
+
 fn main() {
-    let lib = std::fs::canonicalize("../../target/native").expect("build the library first: bench/text/native builder_exports");
-    println!("cargo:rustc-link-search=native={}", lib.display());
-    for name in ["builder_exports", "building_batches"] {
-        println!("cargo:rustc-link-lib=static={name}");
-        println!("cargo:rerun-if-changed=../../target/native/lib{name}.a");
-    }
+    link(&["building_batches"]);
 }

@@ -1,8 +1,5 @@
+include!("../shared/link.rs");
+
 fn main() {
-    let lib = std::fs::canonicalize("../../target/native").expect("build the libraries first: bench/text/native exports, bench/text/native batches");
-    println!("cargo:rustc-link-search=native={}", lib.display());
-    for name in ["exports", "batches"] {
-        println!("cargo:rustc-link-lib=static={name}");
-        println!("cargo:rerun-if-changed=../../target/native/lib{name}.a");
-    }
+    link(&["exports", "batches"]);
 }

@@ -1,31 +1,17 @@
 //! The static library's builder calls, made safe: a slice crosses as its pointer and its count of elements, a state as eleven numbers.
 
+#[path = "../../shared/lent.rs"]
+pub mod lent;
+#[path = "../../shared/timing.rs"]
+pub mod timing;
+#[path = "../../shared/values.rs"]
+pub mod values;
+
+pub use lent::{Counted, Lent, Place, Told, numbers};
 use model::{Growth, Kind, Merge, State};
-
-/// An answer, and the row that refusal 11 names.
-#[repr(C)]
-#[derive(Clone, Copy, Debug, Default, PartialEq, Eq)]
-pub struct Told {
-    pub number: u64,
-    pub row: usize,
-}
-
-#[repr(C)]
-#[derive(Clone, Copy, Debug, Default, PartialEq, Eq)]
-pub struct Counted {
-    pub refused: u64,
-    pub number: usize,
-}
-
-/// A part of a buffer: 0 of the views, 1 of the data.
-#[repr(C)]
-#[derive(Clone, Copy, Debug, Default, PartialEq, Eq)]
-pub struct Place {
-    pub refused: u64,
-    pub buffer: u64,
-    pub offset: usize,
-    pub len: usize,
-}
+// Its archive has the calls declared here.
+use tambuyeel as _;
+pub use values::Values;
 
 pub type Numbers = [usize; 11];
 
@@ -52,7 +38,10 @@ calls! {
     tambuyeel_append_null() -> u64;
     tambuyeel_append_block(x: *const u8, n: usize) -> Counted;
     tambuyeel_append_view(block: u32, offset: u32, n: u32) -> u64;
-    tambuyeel_append_column(v: *const u8, vn: usize, b: *const u8, bn: usize, s: *const usize, sn: usize, l: *const usize, ln: usize, m: *const u8, mn: usize, column: *const [usize; 5]) -> Told;
+    tambuyeel_append_column(
+        v: *const u8, vn: usize, b: *const u8, bn: usize, s: *const usize, sn: usize, l: *const usize, ln: usize, m: *const u8, mn: usize,
+        column: *const [usize; 5]
+    ) -> Told;
     tambuyeel_get_value(row: usize) -> Place;
     tambuyeel_finish(column: *mut [usize; 5]) -> u64;
     tambuyeel_finish_by_copy(column: *mut [usize; 5]) -> u64;
@@ -73,17 +62,6 @@ pub struct Buffers {
     pub places: Vec<u32>,
     /// Views, bytes, starts, lens, nulls, places.
     pub lent: [usize; 6],
-}
-
-/// A column as it is lent.
-#[derive(Clone, Debug)]
-pub struct Source {
-    pub views: Vec<u8>,
-    pub bytes: Vec<u8>,
-    pub starts: Vec<usize>,
-    pub lens: Vec<usize>,
-    pub nulls: Vec<u8>,
-    pub column: [usize; 5],
 }
 
 macro_rules! with {
@@ -124,7 +102,7 @@ impl Buffers {
         with!(self, s, tambuyeel_append_view, block, offset, n)
     }
 
-    pub fn append_column(&mut self, s: &mut Numbers, c: &Source) -> Told {
+    pub fn append_column(&mut self, s: &mut Numbers, c: &Lent) -> Told {
         with!(self, s, tambuyeel_append_column, c.views.as_ptr(), c.views.len(), c.bytes.as_ptr(), c.bytes.len(), c.starts.as_ptr(), c.starts.len(),
             c.lens.as_ptr(), c.lens.len(), c.nulls.as_ptr(), c.nulls.len(), &c.column)
     }

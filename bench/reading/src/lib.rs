@@ -1,88 +1,14 @@
-//! The static library's calls on columns, made safe: a slice crosses as its pointer and its count of elements, a column as the pointer to its five numbers. An answer of more than two
-//! words is written where a first pointer says, which is how C returns it on x86-64 and what the library's code does on every machine.
+//! The static library's calls on columns, made safe. An answer of more than two words is written where a first pointer says, which is how C returns it on
+//! x86-64 and what the library's code does on every machine.
 
-use arrow_array::types::ByteViewType;
-use arrow_array::{Array, GenericByteViewArray};
-use model::Kind;
-use oracle::script::Raw;
+#[path = "../../shared/lent.rs"]
+pub mod lent;
+pub mod safe;
+#[path = "../../shared/timing.rs"]
+pub mod timing;
 
-/// An answer, and the row that refusal 11 names.
-#[repr(C)]
-#[derive(Clone, Copy, Debug, Default, PartialEq, Eq)]
-pub struct Told {
-    pub number: u64,
-    pub row: usize,
-}
-
-/// A part of a buffer: 0 of the views, 1 of the data.
-#[repr(C)]
-#[derive(Clone, Copy, Debug, Default, PartialEq, Eq)]
-pub struct Place {
-    pub refused: u64,
-    pub buffer: u64,
-    pub offset: usize,
-    pub len: usize,
-}
-
-#[repr(C)]
-#[derive(Clone, Copy, Debug, Default, PartialEq, Eq)]
-pub struct Counted {
-    pub refused: u64,
-    pub number: usize,
-}
-
-#[repr(C)]
-#[derive(Clone, Copy, Debug, Default, PartialEq, Eq)]
-pub struct Run {
-    pub refused: u64,
-    pub first: usize,
-    pub rows: usize,
-}
-
-/// A column as it is lent: its buffers, and its five numbers.
-#[derive(Clone, Debug)]
-pub struct Lent {
-    pub views: Vec<u8>,
-    pub bytes: Vec<u8>,
-    pub starts: Vec<usize>,
-    pub lens: Vec<usize>,
-    pub nulls: Vec<u8>,
-    pub column: [usize; 5],
-}
-
-impl Lent {
-    /// A column spelled out. Numbers have 64 bits on both sides.
-    pub fn of_raw(raw: &Raw) -> Self {
-        let c = &raw.column;
-        let text = (c.kind == Kind::String) as usize;
-        Lent {
-            views: raw.views.clone(),
-            bytes: raw.data.clone(),
-            starts: raw.table.iter().map(|b| b.0 as usize).collect(),
-            lens: raw.table.iter().map(|b| b.1 as usize).collect(),
-            nulls: raw.map.clone(),
-            column: [c.first as usize, c.rows as usize, c.blocks as usize, text, c.mapped as usize],
-        }
-    }
-
-    /// The original's column, its buffers one after the other.
-    pub fn of_array<T: ByteViewType + ?Sized>(array: &GenericByteViewArray<T>, text: bool) -> Self {
-        let (mut bytes, mut starts, mut lens) = (vec![], vec![], vec![]);
-        for b in array.data_buffers().iter() {
-            starts.push(bytes.len());
-            lens.push(b.len());
-            bytes.extend_from_slice(b);
-        }
-        let mut nulls = vec![0; array.len().div_ceil(8)];
-        for row in (0..array.len()).filter(|row| array.is_valid(*row)) {
-            nulls[row / 8] |= 1 << (row % 8);
-        }
-        let mapped = array.nulls().is_some();
-        let column = [0, array.len(), starts.len(), text as usize, mapped as usize];
-        let views = array.views().iter().flat_map(|v| v.to_le_bytes()).collect();
-        Lent { views, bytes, starts, lens, nulls, column }
-    }
-}
+pub use lent::{Counted, Lent, Place, Run, Told};
+use lent::lent;
 
 /// Declares calls on one column: what comes before its slices, what comes after them, the answer.
 macro_rules! declared {
@@ -134,25 +60,7 @@ unsafe extern "C" {
     ) -> Told;
 }
 
-/// A call with a column's slices, or two columns'. The library reads what it is lent and asks nothing of it, so every call is safe.
-macro_rules! lent {
-    ($call:ident($($before:expr),*), $l:expr, ($($after:expr),*) $(, $r:expr, ($($last:expr),*))?) => {
-        unsafe {
-            $call(
-                $($before,)*
-                $l.views.as_ptr(), $l.views.len(), $l.bytes.as_ptr(), $l.bytes.len(),
-                $l.starts.as_ptr(), $l.starts.len(), $l.lens.as_ptr(), $l.lens.len(),
-                $l.nulls.as_ptr(), $l.nulls.len(), $l.column.as_ptr(),
-                $($after,)*
-                $($r.views.as_ptr(), $r.views.len(), $r.bytes.as_ptr(), $r.bytes.len(),
-                $r.starts.as_ptr(), $r.starts.len(), $r.lens.as_ptr(), $r.lens.len(),
-                $r.nulls.as_ptr(), $r.nulls.len(), $r.column.as_ptr(),
-                $($last,)*)?
-            )
-        }
-    };
-}
-
+/// The library reads what it is lent and asks nothing of it, so every call is safe.
 impl Lent {
     pub fn why_value(&self, row: usize) -> u8 {
         lent!(tambuyeel_why_value(), self, (row))

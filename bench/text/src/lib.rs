@@ -1,5 +1,12 @@
 //! The static library's calls, made safe: a slice crosses as its pointer and its count of bytes.
 
+#[path = "../../../oracle/src/random.rs"]
+mod random;
+#[path = "../../shared/timing.rs"]
+pub mod timing;
+
+pub use random::Random;
+
 /// The published files.
 pub mod original {
     pub use arrow_array::builder::make_view;
@@ -13,16 +20,18 @@ pub struct Text {
 }
 
 mod raw {
-    extern "C" {
+    unsafe extern "C" {
         pub fn tambuyeel_utf8(x: *const u8, n: usize) -> super::Text;
         pub fn tambuyeel_make_view(x: *const u8, n: usize, block: u32, offset: u32, view: *mut [u8; 16]) -> u64;
     }
 }
 
+#[inline]
 pub fn utf8(s: &[u8]) -> Text {
     unsafe { raw::tambuyeel_utf8(s.as_ptr(), s.len()) }
 }
 
+#[inline]
 pub fn make_view(out: &mut [u8; 16], v: &[u8], block: u32, offset: u32) -> u64 {
     unsafe { raw::tambuyeel_make_view(v.as_ptr(), v.len(), block, offset, out) }
 }
@@ -35,28 +44,12 @@ pub fn std_first_bad(s: &[u8]) -> usize {
     }
 }
 
-/// Numbers that are the same at each run.
-pub struct Numbers(pub u64);
-
-impl Numbers {
-    pub fn next(&mut self) -> u64 {
-        self.0 ^= self.0 << 13;
-        self.0 ^= self.0 >> 7;
-        self.0 ^= self.0 << 17;
-        self.0
-    }
-
-    pub fn below(&mut self, n: u64) -> u64 {
-        self.next() % n
-    }
-
-    /// A code point that a text may have, from each length of a sequence alike.
-    pub fn letter(&mut self) -> char {
-        loop {
-            let (lo, hi) = [(0, 0x80), (0x80, 0x800), (0x800, 0x10000), (0x10000, 0x110000)][self.below(4) as usize];
-            if let Some(c) = char::from_u32((lo + self.below(hi - lo)) as u32) {
-                return c;
-            }
+/// A code point that a text may have, from each length of a sequence alike.
+pub fn letter(x: &mut Random) -> char {
+    loop {
+        let (lo, hi) = [(0, 0x80), (0x80, 0x800), (0x800, 0x10000), (0x10000, 0x110000)][x.below(4) as usize];
+        if let Some(c) = char::from_u32((lo + x.below(hi - lo)) as u32) {
+            return c;
         }
     }
 }

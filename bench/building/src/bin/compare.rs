@@ -3,7 +3,7 @@
 //!
 //! compare SEED CALLS: at least CALLS calls. compare original SEED GROUPS: the oracle's groups, where original and model agree.
 
-use building::{Buffers, Numbers, Source, colliding, hash, numbers_of, state_of};
+use building::{Buffers, Lent as Source, Numbers, colliding, hash, numbers as column_numbers, numbers_of, state_of};
 use model::{Buffer, Column, Growth, Kind, Lent, Merge, Refusal, Rooms, State};
 use oracle::random::Random;
 
@@ -438,10 +438,6 @@ fn call(r: &mut Random, p: &mut Pair, long: &[u8], table: &mut Table) -> Result<
         return Err(told(format!("refusal {refused}, model {theirs}")));
     }
     p.same(&want).map_err(|e| told(format!("{e} differ; ours {:?}, model {want:?}", p.numbers)))
-}
-
-fn column_numbers(c: &Column) -> [usize; 5] {
-    [c.first as usize, c.rows as usize, c.blocks as usize, (c.kind == Kind::String) as usize, c.mapped as usize]
 }
 
 /// Buffers for all rows and blocks that there can be, the calls near those limits.

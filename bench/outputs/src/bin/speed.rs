@@ -1,32 +1,15 @@
-//! speed [ROUNDS [NAME [WORK]]]: ours beside the original on the same columns, best of ROUNDS (31), nanoseconds a row. Compaction against `gc_with_max_buffer_size`, which
-//! judges no row and, where no row is long, shares the views; judging alone is a call that is refused for want of row room. The offset column against the
+//! speed [ROUNDS [NAME [SIDE]]]: ours beside the original on the same columns, best of ROUNDS (31), nanoseconds a row. Compaction against
+//! `gc_with_max_buffer_size`, which judges no row and, where no row is long, shares the views; judging alone is a call that is refused for want of row room. The offset column against the
 //! original's `From` alone (it shares the bytes and judges nothing), and against all of the work: `try_new`, `From` and a copy of the bytes.
 
 use arrow_array::builder::BinaryViewBuilder;
 use arrow_array::types::{BinaryType, BinaryViewType, StringViewType, Utf8Type};
-use arrow_array::{Array, BinaryViewArray, GenericByteArray, GenericByteViewArray};
+use arrow_array::{BinaryViewArray, GenericByteArray, GenericByteViewArray};
 use arrow_buffer::{BooleanBuffer, Buffer, NullBuffer, OffsetBuffer, ScalarBuffer};
 use oracle::random::Random;
+use outputs::timing::{Ask, seconds};
 use outputs::{Lent, from_offsets};
 use std::hint::black_box;
-use std::time::Instant;
-
-fn lent(a: &BinaryViewArray) -> Lent {
-    let views: Vec<u8> = a.views().iter().flat_map(|x| x.to_le_bytes()).collect();
-    let (mut bytes, mut starts, mut lens) = (vec![], vec![], vec![]);
-    for d in a.data_buffers().iter() {
-        starts.push(bytes.len());
-        lens.push(d.len());
-        bytes.extend_from_slice(d.as_slice());
-    }
-    let mut nulls = vec![];
-    if let Some(n) = a.nulls() {
-        nulls = vec![0; a.len().div_ceil(8)];
-        (0..a.len()).filter(|i| n.is_valid(*i)).for_each(|i| nulls[i / 8] |= 1 << (i % 8));
-    }
-    let column = [0, a.len(), starts.len(), 0, a.nulls().is_some() as usize];
-    Lent { views, bytes, starts, lens, nulls, column }
-}
 
 fn build(random: &mut Random, rows: usize, lo: u64, hi: u64, nulls: bool) -> BinaryViewArray {
     let mut b = BinaryViewBuilder::with_capacity(rows);
@@ -41,41 +24,10 @@ fn build(random: &mut Random, rows: usize, lo: u64, hi: u64, nulls: bool) -> Bin
     b.finish()
 }
 
-fn room(of: &Lent, blocks: usize) -> Lent {
-    Lent {
-        views: vec![0; of.views.len()],
-        bytes: vec![0; of.bytes.len()],
-        starts: vec![0; blocks],
-        lens: vec![0; blocks],
-        nulls: vec![0; of.column[1].div_ceil(8)],
-        column: [0; 5],
-    }
-}
-
-/// How many rounds, and if not all: the cases whose name has this in it, the one work to do (to count its instructions).
-struct Ask {
-    rounds: usize,
-    name: Option<String>,
-    work: Option<usize>,
-}
-
-impl Ask {
-    fn takes(&self, name: &str) -> bool {
-        self.name.as_ref().is_none_or(|n| name.contains(n.as_str()))
-    }
-}
-
-/// The least time of one of the works, nanoseconds a row, each in turn in every round.
-fn best<const N: usize>(ask: &Ask, rows: usize, reps: usize, mut work: impl FnMut(usize)) -> [f64; N] {
-    let mut least = [f64::MAX; N];
-    for _ in 0..ask.rounds {
-        for (k, slot) in least.iter_mut().enumerate().filter(|(k, _)| ask.work.is_none_or(|w| w == *k)) {
-            let now = Instant::now();
-            (0..reps).for_each(|_| work(k));
-            *slot = slot.min(now.elapsed().as_secs_f64() / (reps * rows) as f64 * 1e9);
-        }
-    }
-    least
+/// Nanoseconds a row of the least time of each side.
+fn best<const N: usize>(ask: &Ask, rows: usize, times: usize, mut work: impl FnMut(usize)) -> [f64; N] {
+    let t = ask.turns::<N>(|side| seconds(times, &mut || work(side)));
+    std::array::from_fn(|side| t.best(side) * 1e9 / rows as f64)
 }
 
 fn compactions(ask: &Ask) {
@@ -98,9 +50,9 @@ fn compactions(ask: &Ask) {
             continue;
         }
         let a = build(&mut Random::new(5), rows, lo, hi, nulls);
-        let source = lent(&a);
-        let mut out = room(&source, 4096);
-        let mut short = room(&source, 4096);
+        let source = Lent::of_array(&a, false);
+        let mut out = Lent::room(rows, source.bytes.len(), 4096);
+        let mut short = out.clone();
         short.views.pop();
         let reps = (32767 / rows).max(1);
         let [ours, gc, judging] = best::<3>(ask, rows, reps, |k| match k {
@@ -145,7 +97,7 @@ fn conversions(ask: &Ask) {
         }
         let map: Vec<u8> = (0..rows.div_ceil(8)).map(|_| (random.below(256) | random.below(256)) as u8).collect();
         let laid: Vec<u8> = offsets.iter().flat_map(|o| o.to_le_bytes()).collect();
-        let mut out = Lent { views: vec![0; 16 * rows], bytes: vec![0; bytes.len()], starts: vec![0], lens: vec![0], nulls: vec![0; rows.div_ceil(8)], column: [0; 5] };
+        let mut out = Lent::room(rows, bytes.len(), 1);
         let nulls = some.then(|| NullBuffer::new(BooleanBuffer::new(Buffer::from(&map[..]), 0, rows)));
         let numbers = ScalarBuffer::from(offsets);
         let data = Buffer::from(&bytes[..]);
@@ -181,9 +133,7 @@ fn conversions(ask: &Ask) {
 }
 
 fn main() {
-    let args: Vec<String> = std::env::args().skip(1).collect();
-    let number = |k: usize| args.get(k).map(|a| a.parse().expect("speed [ROUNDS [NAME [WORK]]]"));
-    let ask = Ask { rounds: number(0).unwrap_or(31), name: args.get(1).cloned(), work: number(2) };
+    let ask = Ask::new(31);
     compactions(&ask);
     conversions(&ask);
 }

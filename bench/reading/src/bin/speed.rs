@@ -1,18 +1,20 @@
-//! Times of reading, comparison, totals and the check, ours beside the original's, on the same columns. A batch is one call on each side, rounds
-//! alternate, and every batch's answer is held against the other's before it is timed. Prints the ratio of the best times, the median of
-//! the ratios of neighbouring rounds (below 1: ours is faster), the target, the best times for one row, and the cost of twice as many rows.
+//! Times of reading, comparison, totals and the check, ours beside the original's, on the same columns, and value and comparison also beside safe Rust that
+//! makes the same tests (src/safe.rs). A batch is one call on each side, rounds alternate, and every batch's answer is held against the other's before it
+//! is timed. Prints the ratio of the best times, the median of the ratios of neighbouring rounds (below 1: ours is faster), the target, the same beside safe
+//! Rust, the best times for one row, and the cost of twice as many rows. Sides: 0 ours, 1 the original's, 2 safe Rust.
 
 use arrow_array::builder::GenericByteViewBuilder;
-use arrow_array::types::{BinaryViewType, ByteViewType, StringViewType};
+use arrow_array::types::{BinaryViewType, StringViewType};
 use arrow_array::{Array, BinaryViewArray, GenericByteViewArray, StringViewArray};
 use arrow_data::{validate_binary_view, validate_string_view};
 use oracle::random::Random;
-use reading::Lent;
+use reading::timing::{Ask, aim, seconds};
+use reading::{Lent, safe};
 use std::cmp::Ordering;
-use std::hint::black_box;
-use std::time::Instant;
 
 const ROUNDS: usize = 401;
+/// The most that ours may take of what safe Rust takes.
+const OF_SAFE: f64 = 0.8;
 const ROWS: [usize; 3] = [1_000, 16_000, 32_000];
 
 /// The original's batches.
@@ -53,42 +55,36 @@ mod original {
     }
 }
 
-fn seconds(reps: usize, work: &mut dyn FnMut() -> u64) -> f64 {
-    let from = Instant::now();
-    for _ in 0..reps {
-        black_box(work());
-    }
-    from.elapsed().as_secs_f64() / reps as f64
+type Batch<'a> = &'a mut dyn FnMut() -> u64;
+
+/// Times the batches in turn, prints the row, and answers our best time for one.
+fn row(ask: &Ask, name: &str, target: f64, rows: usize, ours: Batch, theirs: Batch) -> f64 {
+    assert_eq!(ours(), theirs(), "{name}");
+    let times = ask.times(theirs);
+    let t = ask.turns::<2>(|side| seconds(times, if side == 0 { &mut *ours } else { &mut *theirs }));
+    let (ratio, per) = (t.ratio(0, 1), 1e9 / rows as f64);
+    println!("| {name}, {rows} rows | {ratio:.2} | {:.2} | {} | | | {:.2} | {:.2} | |", t.median(0, 1), aim(ratio, target), t.best(0) * per, t.best(1) * per);
+    t.best(0)
 }
 
-/// Alternates rounds of some 300 microseconds, prints the row, and answers our best time.
-fn row(name: &str, target: f64, rows: usize, ours: &mut dyn FnMut() -> u64, theirs: &mut dyn FnMut() -> u64) -> f64 {
-    assert_eq!(ours(), theirs(), "{name}");
-    let reps = (3e-4 / seconds(1, theirs)).max(1.0) as usize;
-    let (mut a, mut b) = (vec![], vec![]);
-    for round in 0..ROUNDS {
-        if round % 2 == 0 {
-            a.push(seconds(reps, ours));
-            b.push(seconds(reps, theirs));
-        } else {
-            b.push(seconds(reps, theirs));
-            a.push(seconds(reps, ours));
-        }
-    }
-    let best = |t: &[f64]| t.iter().copied().fold(f64::INFINITY, f64::min);
-    let mut ratios: Vec<f64> = a.iter().zip(&b).map(|(a, b)| a / b).collect();
-    ratios.sort_by(f64::total_cmp);
-    let (x, y) = (best(&a), best(&b));
-    let per = 1e9 / rows as f64;
-    let missed = if x / y > target + 0.005 { " missed" } else { "" };
-    println!("| {name}, {rows} rows | {:.2} | {:.2} | {target:.1}{missed} | {:.2} | {:.2} |", x / y, ratios[ROUNDS / 2], x * per, y * per);
-    x
+/// The same with safe Rust as a third side.
+fn row_of_three(ask: &Ask, name: &str, target: f64, rows: usize, sides: [Batch; 3]) -> f64 {
+    let said = [0, 1, 2].map(|k: usize| sides[k]());
+    assert_eq!(said, [said[0]; 3], "{name}");
+    let times = ask.times(sides[1]);
+    let t = ask.turns::<3>(|side| seconds(times, sides[side]));
+    let (ratio, of_safe, per) = (t.ratio(0, 1), t.ratio(0, 2), 1e9 / rows as f64);
+    let best = [0, 1, 2].map(|k| format!("{:.2}", t.best(k) * per)).join(" | ");
+    println!("| {name}, {rows} rows | {ratio:.2} | {:.2} | {} | {of_safe:.2} | {} | {best} |", t.median(0, 1), aim(ratio, target), aim(of_safe, OF_SAFE));
+    t.best(0)
 }
 
 /// The same work at each number of rows, then what twice as many rows cost us.
-fn rows(name: &str, target: f64, mut at: impl FnMut(&str, f64, usize) -> f64) {
-    let times = ROWS.map(|n| at(name, target, n));
-    println!("| {name}: twice {} rows cost {:.2} times as much | | | | | |", ROWS[1], times[2] / times[1]);
+fn rows(ask: &Ask, name: &str, mut at: impl FnMut(usize) -> f64) {
+    if ask.takes(name) {
+        let times = ROWS.map(&mut at);
+        println!("| {name}: twice {} rows cost {:.2} times as much | | | | | | | | |", ROWS[1], times[2] / times[1]);
+    }
 }
 
 /// Values of from..=to bytes, one row in `null` a null if it isn't 0.
@@ -134,72 +130,76 @@ fn text(n: usize, letters: &[char]) -> StringViewArray {
     b.finish()
 }
 
-fn lent<T: ByteViewType + ?Sized>(a: &GenericByteViewArray<T>) -> Lent {
-    Lent::of_array(a, false)
-}
-
-fn reading() {
-    for (name, from, to) in [("value, 0 to 12 bytes", 0, 12), ("value, 13 to 40 bytes", 13, 40), ("value, 0 to 40 bytes", 0, 40)] {
-        rows(name, 1.1, |name, target, n| {
+fn reading(ask: &Ask) {
+    for (name, from, to, target) in [("value, 0 to 12 bytes", 0, 12, 1.0), ("value, 13 to 40 bytes", 13, 40, 1.1), ("value, 0 to 40 bytes", 0, 40, 1.1)] {
+        rows(ask, name, |n| {
             let a = binary(n, from, to, 0);
-            let l = lent(&a);
-            row(name, target, n, &mut || l.read_all(), &mut || original::read_all(&a))
+            let l = Lent::of_array(&a, false);
+            row_of_three(ask, name, target, n, [&mut || l.read_all(), &mut || original::read_all(&a), &mut || safe::read_all(&l)])
         });
     }
 }
 
-fn comparison() {
-    for (name, from, to) in [("comparison, random, 0 to 12 bytes", 0, 12), ("comparison, random, 13 to 40 bytes", 13, 40), ("comparison, random, 0 to 40 bytes", 0, 40)] {
-        rows(name, 1.0, |name, target, n| {
+fn comparison(ask: &Ask) {
+    for (name, from, to) in
+        [("comparison, random, 0 to 12 bytes", 0, 12), ("comparison, random, 13 to 40 bytes", 13, 40), ("comparison, random, 0 to 40 bytes", 0, 40)]
+    {
+        rows(ask, name, |n| {
             let a = binary(n, from, to, 0);
-            let l = lent(&a);
-            row(name, target, n, &mut || l.count_less(), &mut || original::count_less(&a))
+            let l = Lent::of_array(&a, false);
+            row_of_three(ask, name, 1.0, n, [&mut || l.count_less(), &mut || original::count_less(&a), &mut || safe::count_less(&l)])
         });
     }
-    for len in [12, 13, 24, 40, 100, 1_000] {
+    for (len, target) in [(12, 0.0), (13, 1.2), (24, 1.2), (40, 1.2), (100, 1.2), (1_000, 1.3)] {
         let (a, name) = (equal(1_000, len), format!("comparison, equal, {len} bytes"));
-        let l = lent(&a);
-        row(&name, 1.5, 1_000, &mut || l.count_less(), &mut || original::count_less(&a));
+        if ask.takes(&name) {
+            let l = Lent::of_array(&a, false);
+            row_of_three(ask, &name, target, 1_000, [&mut || l.count_less(), &mut || original::count_less(&a), &mut || safe::count_less(&l)]);
+        }
     }
 }
 
-fn totals() {
+fn totals(ask: &Ask) {
     for (name, null) in [("total_bytes_len, no map", 0), ("total_bytes_len, one row in 5 null", 5)] {
-        rows(name, 1.0, |name, target, n| {
+        rows(ask, name, |n| {
             let a = binary(n, 0, 40, null);
-            let l = lent(&a);
-            row(name, target, n, &mut || l.total_bytes_len().number as u64, &mut || a.total_bytes_len() as u64)
+            let l = Lent::of_array(&a, false);
+            row(ask, name, 1.0, n, &mut || l.total_bytes_len().number as u64, &mut || a.total_bytes_len() as u64)
         });
     }
-    rows("total_buffer_bytes_used", 1.0, |name, target, n| {
+    let name = "total_buffer_bytes_used";
+    rows(ask, name, |n| {
         let a = binary(n, 0, 40, 0);
-        let l = lent(&a);
-        row(name, target, n, &mut || l.total_buffer_bytes_used().number as u64, &mut || a.total_buffer_bytes_used() as u64)
+        let l = Lent::of_array(&a, false);
+        row(ask, name, 1.0, n, &mut || l.total_buffer_bytes_used().number as u64, &mut || a.total_buffer_bytes_used() as u64)
     });
 }
 
-fn checks() {
-    for (name, from, to) in [("check of Binary, 0 to 12 bytes", 0, 12), ("check of Binary, 13 to 40 bytes", 13, 40), ("check of Binary, 0 to 40 bytes", 0, 40)] {
-        rows(name, 1.2, |name, target, n| {
+fn checks(ask: &Ask) {
+    for (name, from, to) in
+        [("check of Binary, 0 to 12 bytes", 0, 12), ("check of Binary, 13 to 40 bytes", 13, 40), ("check of Binary, 0 to 40 bytes", 0, 40)]
+    {
+        rows(ask, name, |n| {
             let a = binary(n, from, to, 0);
-            let l = lent(&a);
-            row(name, target, n, &mut || l.check().number, &mut || original::check_binary(&a))
+            let l = Lent::of_array(&a, false);
+            row(ask, name, 1.0, n, &mut || l.check().number, &mut || original::check_binary(&a))
         });
     }
     let (plain, latin, cjk) = (['a', 'b', ' ', 'Z', '0'], ['a', 'b', ' ', 'e', 'n', 'é'], ['漢', '字', '仮', '名']);
     for (name, letters) in [("check of String, ASCII", &plain[..]), ("check of String, Latin", &latin[..]), ("check of String, CJK", &cjk[..])] {
-        rows(name, 1.2, |name, target, n| {
+        rows(ask, name, |n| {
             let a = text(n, letters);
             let l = Lent::of_array(&a, true);
-            row(name, target, n, &mut || l.check().number, &mut || original::check_string(&a))
+            row(ask, name, 1.2, n, &mut || l.check().number, &mut || original::check_string(&a))
         });
     }
 }
 
 fn main() {
-    println!("| work | best | median | target | ours, ns a row | Rust, ns a row |\n|---|---|---|---|---|---|");
-    reading();
-    comparison();
-    totals();
-    checks();
+    let ask = Ask::new(ROUNDS);
+    println!("| work | best | median | target | of safe Rust | target | ours, ns a row | Rust | safe Rust |\n|---|---|---|---|---|---|---|---|---|");
+    reading(&ask);
+    comparison(&ask);
+    totals(&ask);
+    checks(&ask);
 }

@@ -65,12 +65,12 @@ fn four(out: &mut impl Write) -> u64 {
 }
 
 fn random(out: &mut impl Write) -> u64 {
-    let (mut t, mut x) = (Tally::new(), Numbers(88172645463325252));
+    let (mut t, mut x) = (Tally::new(), Random::new(3));
     for round in 0..400_000u32 {
         let mut s = String::new();
         let plain = x.below(3) == 0;
         for _ in 0..x.below(60) {
-            s.push(if plain && x.below(20) > 0 { (x.below(128) as u8) as char } else { x.letter() });
+            s.push(if plain && x.below(20) > 0 { (x.below(128) as u8) as char } else { letter(&mut x) });
         }
         let mut s = s.into_bytes();
         for _ in 0..round % 3 {
@@ -91,14 +91,14 @@ fn random(out: &mut impl Write) -> u64 {
 }
 
 fn views() -> u64 {
-    let (mut x, mut tried, mut wrong) = (Numbers(42), 0u64, 0u64);
-    let long: Vec<u8> = (0..16_777_218).map(|_| x.below(256) as u8).collect();
+    let (mut x, mut tried, mut wrong) = (Random::new(42), 0u64, 0u64);
+    let long: Vec<u8> = (0..16_777_218).map(|_| x.word() as u8).collect();
     let lengths: Vec<usize> = (0..=40).chain([255, 256, 257, 65_535, 65_536, 16_777_215, 16_777_216, 16_777_217, 16_777_218]).collect();
     for n in lengths {
         for _ in 0..100 {
             let from = x.below((long.len() - n + 1) as u64) as usize;
-            let (v, block, offset) = (&long[from..from + n], x.next() as u32, x.next() as u32);
-            let before = (x.next() as u128) << 64 | x.next() as u128;
+            let (v, block, offset) = (&long[from..from + n], x.word() as u32, x.word() as u32);
+            let before = (x.word() as u128) << 64 | x.word() as u128;
             let mut out = before.to_le_bytes();
             let no = make_view(&mut out, v, block, offset);
             let want = if n <= 16_777_216 { (0, original::make_view(v, block, offset)) } else { (4, before) };

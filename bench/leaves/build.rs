@@ -1,0 +1,5 @@
+include!("../shared/link.rs");
+
+fn main() {
+    link(&["leaf_exports"]);
+}

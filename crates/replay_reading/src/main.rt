@@ -1,5 +1,7 @@
 // Replays data/reading.bin, the fixed list of answers about columns that oracle/README.md lays out: groups of two columns and questions about them.
-// Writes how many groups and questions there were, how many questions were answered otherwise, the first of those, and whether the list ended inside a group.
+// A question about a part is asked twice, the second time with every byte of the part changed where the list says that it lies: so the part lies there.
+// Value, check and comparison are also asked over a table of records. Writes how many groups and questions there were, how many were also asked over
+// records, how many questions were answered otherwise, the first of those, and whether the list ended inside a group.
 mod input;
 mod said;
 
@@ -10,6 +12,7 @@ use said::Said;
 struct Tally {
     groups: u64,
     questions: u64,
+    records: u64,
     wrong: u64,
     first: u64,
     torn: bool,
@@ -43,6 +46,37 @@ fn holds(got: &[u8], from: &[u8], at: usize, n: usize) -> bool {
     }
     let end = at + n;
     order::same(got, &from[at..end])
+}
+
+// The bytes of a buffer from a place on; none where it has fewer.
+fn cut<'a>(from: &'a [u8], at: usize, n: usize) -> &'a [u8] {
+    let size = from.len();
+    if size < n {
+        return &from[0..0];
+    }
+    if size - n < at {
+        return &from[0..0];
+    }
+    let end = at + n;
+    &from[at..end]
+}
+
+// The part that the list names.
+fn part_of<'a>(views: &'a [u8], bytes: &'a [u8], q: &[u8; 80]) -> &'a [u8] {
+    let at = input::word(q, 8);
+    let n = input::word(q, 9);
+    if input::word(q, 7) == 1 {
+        return cut(views, at, n);
+    }
+    cut(bytes, at, n)
+}
+
+// The length of what the list names in one of the buffers: nothing of the other one.
+fn span(which: usize, q: &[u8; 80]) -> usize {
+    if input::word(q, 7) == which {
+        return input::word(q, 9);
+    }
+    0
 }
 
 // Calls 1, 2, 3 and 13: those that answer a part of the left column's views or data.
@@ -111,14 +145,29 @@ fn ask_number<'a>(
     }
 }
 
+// Which of two columns is refused: with 11 the list says it, with 2 it is the left one unless that fits, with 3 unless it has the row.
+fn side_of(fits: bool, rows: usize, q: &[u8; 80]) -> usize {
+    let refusal = input::word(q, 3);
+    match refusal {
+        0 => 0,
+        2 => if fits { 2 } else { 1 },
+        3 => if input::word(q, 1) < rows { 2 } else { 1 },
+        _ => input::word(q, 5),
+    }
+}
+
+fn agrees_on_side(s: Said, side: usize, q: &[u8; 80]) -> bool {
+    if s.side != side {
+        return false;
+    }
+    agrees(s, q)
+}
+
 fn agrees(s: Said, q: &[u8; 80]) -> bool {
     if s.refusal != input::word(q, 3) {
         return false;
     }
     if s.row != input::word(q, 4) {
-        return false;
-    }
-    if s.side != input::word(q, 5) {
         return false;
     }
     if s.number != input::word(q, 6) {
@@ -130,47 +179,260 @@ fn agrees(s: Said, q: &[u8; 80]) -> bool {
     s.part
 }
 
+// The same with every byte of the part that the list names changed where it lies.
+fn ask_place<'a>(
+    views: &'a [u8],
+    bytes: &'a [u8],
+    starts: &[usize],
+    lens: &[usize],
+    nulls: &'a [u8],
+    c: Column,
+    q: &[u8; 80],
+) -> bool {
+    let mut v = [0u8; 1024];
+    let mut d = [0u8; 1024];
+    let at = input::word(q, 8);
+    input::changed(views, &mut v, at, span(1, q));
+    input::changed(bytes, &mut d, at, span(2, q));
+    let views2 = input::front(&v, views.len());
+    let bytes2 = input::front(&d, bytes.len());
+    if !agrees(ask_part(views2, bytes2, starts, lens, nulls, c, q), q) {
+        return false;
+    }
+    if input::word(q, 0) != 1 {
+        return true;
+    }
+    through_value(views2, bytes2, starts, lens, nulls, c, q)
+}
+
+// Call 1 over a table of records.
+fn through_value<'a>(
+    views: &'a [u8],
+    bytes: &'a [u8],
+    starts: &[usize],
+    lens: &[usize],
+    nulls: &'a [u8],
+    c: Column,
+    q: &[u8; 80],
+) -> bool {
+    let n = input::records(starts, lens);
+    if through_records::MOST < n {
+        return false;
+    }
+    let row = input::word(q, 1);
+    let want = part_of(views, bytes, q);
+    let why = through_records::why_value(starts, lens, n, views, bytes, nulls, c, row);
+    let same = through_records::value_is(starts, lens, n, views, bytes, nulls, c, row, want);
+    agrees(said::of_part(why, 0, want.len(), same), q)
+}
+
+// Call 11 over a table of records.
+fn through_check<'a>(
+    views: &'a [u8],
+    bytes: &'a [u8],
+    starts: &[usize],
+    lens: &[usize],
+    nulls: &'a [u8],
+    c: Column,
+    q: &[u8; 80],
+) -> bool {
+    let n = input::records(starts, lens);
+    if through_records::MOST < n {
+        return false;
+    }
+    agrees(
+        said::of_why(
+            through_records::check(starts, lens, n, views, bytes, nulls, c),
+            0,
+        ),
+        q,
+    )
+}
+
+// Call 10 over two tables of records.
+fn through_compare<'a>(
+    views: &'a [u8],
+    bytes: &'a [u8],
+    starts: &[usize],
+    lens: &[usize],
+    nulls: &'a [u8],
+    c: Column,
+    views2: &'a [u8],
+    bytes2: &'a [u8],
+    starts2: &[usize],
+    lens2: &[usize],
+    nulls2: &'a [u8],
+    d: Column,
+    side: usize,
+    q: &[u8; 80],
+) -> bool {
+    let n = input::records(starts, lens);
+    let m = input::records(starts2, lens2);
+    if through_records::MOST < n {
+        return false;
+    }
+    if through_records::MOST < m {
+        return false;
+    }
+    let i = input::word(q, 1);
+    let j = input::word(q, 2);
+    let got = through_records::compare(
+        starts,
+        lens,
+        n,
+        views,
+        bytes,
+        nulls,
+        c,
+        i,
+        starts2,
+        lens2,
+        m,
+        views2,
+        bytes2,
+        nulls2,
+        d,
+        j,
+    );
+    agrees_on_side(said::of_compared(got), side, q)
+}
+
+// A question about one column over a table of records: right or not; yes where there is no such call.
+fn ask_through<'a>(
+    views: &'a [u8],
+    bytes: &'a [u8],
+    starts: &[usize],
+    lens: &[usize],
+    nulls: &'a [u8],
+    c: Column,
+    q: &[u8; 80],
+) -> bool {
+    let call = input::word(q, 0);
+    match call {
+        1 => through_value(views, bytes, starts, lens, nulls, c, q),
+        11 => through_check(views, bytes, starts, lens, nulls, c, q),
+        _ => true,
+    }
+}
+
+// One question about one column: right or not.
+fn ask_one<'a>(
+    views: &'a [u8],
+    bytes: &'a [u8],
+    starts: &[usize],
+    lens: &[usize],
+    nulls: &'a [u8],
+    c: Column,
+    q: &[u8; 80],
+) -> bool {
+    let call = input::word(q, 0);
+    if !ask_through(views, bytes, starts, lens, nulls, c, q) {
+        return false;
+    }
+    match call {
+        1..=3 | 13 => {
+            if !agrees(ask_part(views, bytes, starts, lens, nulls, c, q), q) {
+                return false;
+            }
+            ask_place(views, bytes, starts, lens, nulls, c, q)
+        }
+        _ => agrees(ask_number(views, bytes, starts, lens, nulls, c, q), q),
+    }
+}
+
+// Call 10: right or not.
+fn ask_compare<'a>(
+    views: &'a [u8],
+    bytes: &'a [u8],
+    starts: &[usize],
+    lens: &[usize],
+    nulls: &'a [u8],
+    c: Column,
+    views2: &'a [u8],
+    bytes2: &'a [u8],
+    starts2: &[usize],
+    lens2: &[usize],
+    nulls2: &'a [u8],
+    d: Column,
+    side: usize,
+    q: &[u8; 80],
+) -> bool {
+    let a = input::word(q, 1);
+    let b = input::word(q, 2);
+    let got = comparison::compare(
+        views,
+        bytes,
+        starts,
+        lens,
+        nulls,
+        c,
+        a,
+        views2,
+        bytes2,
+        starts2,
+        lens2,
+        nulls2,
+        d,
+        b,
+    );
+    if !agrees_on_side(said::of_compared(got), side, q) {
+        return false;
+    }
+    through_compare(
+        views,
+        bytes,
+        starts,
+        lens,
+        nulls,
+        c,
+        views2,
+        bytes2,
+        starts2,
+        lens2,
+        nulls2,
+        d,
+        side,
+        q,
+    )
+}
+
 // One question about the two columns: right or not.
 fn ask<'a>(
     views: &'a [u8],
     bytes: &'a [u8],
     starts: &[usize],
     lens: &[usize],
-    nulls: &[u8],
+    nulls: &'a [u8],
     c: Column,
     views2: &'a [u8],
     bytes2: &'a [u8],
     starts2: &[usize],
     lens2: &[usize],
-    nulls2: &[u8],
+    nulls2: &'a [u8],
     d: Column,
     q: &[u8; 80],
 ) -> bool {
     let call = input::word(q, 0);
-    let a = input::word(q, 1);
-    let b = input::word(q, 2);
+    let rows = c.rows;
+    let side = side_of(column::fits(views, bytes, starts, lens, nulls, c), rows, q);
     match call {
-        1..=3 | 13 => agrees(ask_part(views, bytes, starts, lens, nulls, c, q), q),
-        10 => agrees(
-            said::of_compared(comparison::compare(
-                views,
-                bytes,
-                starts,
-                lens,
-                nulls,
-                c,
-                a,
-                views2,
-                bytes2,
-                starts2,
-                lens2,
-                nulls2,
-                d,
-                b,
-            )),
+        10 => ask_compare(
+            views,
+            bytes,
+            starts,
+            lens,
+            nulls,
+            c,
+            views2,
+            bytes2,
+            starts2,
+            lens2,
+            nulls2,
+            d,
+            side,
             q,
         ),
-        12 => agrees(
+        12 => agrees_on_side(
             said::of_same(comparison::same_column(
                 views,
                 bytes,
@@ -185,9 +447,10 @@ fn ask<'a>(
                 nulls2,
                 d,
             )),
+            side,
             q,
         ),
-        _ => agrees(ask_number(views, bytes, starts, lens, nulls, c, q), q),
+        _ => ask_one(views, bytes, starts, lens, nulls, c, q),
     }
 }
 
@@ -199,23 +462,31 @@ fn more(n: u64) -> u64 {
     n
 }
 
-fn counted(t: Tally, right: bool) -> Tally {
-    let questions = more(t.questions);
-    if right {
-        return Tally {
-            groups: t.groups,
-            questions,
-            wrong: t.wrong,
-            first: t.first,
-            torn: false,
-            ended: false,
-        };
+// The calls that there are over a table of records.
+fn over_records(call: usize) -> bool {
+    match call {
+        1 | 10 | 11 => true,
+        _ => false,
     }
+}
+
+fn counted(t: Tally, q: &[u8; 80], right: bool) -> Tally {
+    let call = input::word(q, 0);
+    let questions = more(t.questions);
     Tally {
         groups: t.groups,
         questions,
-        wrong: more(t.wrong),
-        first: if t.wrong == 0 { questions } else { t.first },
+        records: if over_records(call) {
+            more(t.records)
+        } else {
+            t.records
+        },
+        wrong: if right { t.wrong } else { more(t.wrong) },
+        first: if right {
+            t.first
+        } else {
+            if t.wrong == 0 { questions } else { t.first }
+        },
         torn: false,
         ended: false,
     }
@@ -232,6 +503,7 @@ fn torn(t: Tally) -> Tally {
     Tally {
         groups: t.groups,
         questions: t.questions,
+        records: t.records,
         wrong: t.wrong,
         first: t.first,
         torn: true,
@@ -246,13 +518,13 @@ fn questions<'a>(
     bytes: &'a [u8],
     starts: &[usize],
     lens: &[usize],
-    nulls: &[u8],
+    nulls: &'a [u8],
     c: Column,
     views2: &'a [u8],
     bytes2: &'a [u8],
     starts2: &[usize],
     lens2: &[usize],
-    nulls2: &[u8],
+    nulls2: &'a [u8],
     d: Column,
     n: u64,
     before: Tally,
@@ -279,7 +551,7 @@ fn questions<'a>(
             d,
             &q,
         );
-        t = counted(t, right);
+        t = counted(t, &q, right);
         k += 1;
     }
     t
@@ -329,13 +601,13 @@ fn asked<'a>(
     bytes: &'a [u8],
     starts: &[usize],
     lens: &[usize],
-    nulls: &[u8],
+    nulls: &'a [u8],
     a: input::Shape,
     views2: &'a [u8],
     bytes2: &'a [u8],
     starts2: &[usize],
     lens2: &[usize],
-    nulls2: &[u8],
+    nulls2: &'a [u8],
     b: input::Shape,
     n: u64,
     t: Tally,
@@ -425,6 +697,7 @@ fn turn(fd: i32, t: Tally) -> Tally {
         return Tally {
             groups: t.groups,
             questions: t.questions,
+            records: t.records,
             wrong: t.wrong,
             first: t.first,
             torn: t.torn,
@@ -437,6 +710,7 @@ fn turn(fd: i32, t: Tally) -> Tally {
     let begun = Tally {
         groups: more(t.groups),
         questions: t.questions,
+        records: t.records,
         wrong: t.wrong,
         first: t.first,
         torn: false,
@@ -450,6 +724,7 @@ fn replay(fd: i32) -> Tally {
     let mut t = Tally {
         groups: 0,
         questions: 0,
+        records: 0,
         wrong: 0,
         first: 0,
         torn: false,
@@ -476,6 +751,7 @@ fn main() {
     libc::close(fd);
     say(b"groups=", t.groups);
     say(b"questions=", t.questions);
+    say(b"records=", t.records);
     say(b"wrong=", t.wrong);
     say(b"first=", t.first);
     say(b"torn=", if t.torn { 1 } else { 0 });

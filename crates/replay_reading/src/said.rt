@@ -29,13 +29,13 @@ pub fn plain(number: usize) -> Said {
     }
 }
 
-// The row and the side are named with 11 alone.
+// The row is named with 11 alone.
 fn refused(r: Refusal, side: usize) -> Said {
     let refusal = bounds::number(r) as usize;
     Said {
         refusal,
         row: bounds::row(r),
-        side: if refusal == 11 { side } else { 0 },
+        side,
         number: 0,
         size: 0,
         part: true,

@@ -1,10 +1,10 @@
 use borrow.Author.Needs.{needs}
-use Prim.Native.Nat.{_≤_, _-_}
+use Prim.Native.Nat.{_≤_, _<_, _-_, _^_}
 use Rattle.replay_reading.proofs.questions.Statement.{statement}
 use Rattle.replay_reading.proofs.questions.Tie as tie
 
 abbrev Inv-loop : tie.InvT-loop
-Inv-loop fd views bytes starts lens nulls c views2 bytes2 starts2 lens2 nulls2 d n t₀ k₀ t k = k ≤ n
+Inv-loop fd views bytes starts lens nulls c views2 bytes2 starts2 lens2 nulls2 d n t₀ k₀ t k = (k ≤ n) × (n < 2 ^ 64)
 
 abbrev μ-loop : tie.MeasureT-loop
 μ-loop fd views bytes starts lens nulls c views2 bytes2 starts2 lens2 nulls2 d n t₀ k₀ t k = n - k

@@ -1,7 +1,7 @@
 fn main() {
-    let lib = std::fs::canonicalize("../../target/native").expect("build the libraries first: bench/text/native exports, bench/text/native batches");
+    let lib = std::fs::canonicalize("../../target/native").expect("build the libraries first: bench/text/native exports, batches and record_exports");
     println!("cargo:rustc-link-search=native={}", lib.display());
-    for name in ["exports", "batches"] {
+    for name in ["exports", "batches", "record_exports"] {
         println!("cargo:rustc-link-lib=static={name}");
         println!("cargo:rerun-if-changed=../../target/native/lib{name}.a");
     }

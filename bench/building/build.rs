@@ -1,5 +1,5 @@
 include!("../shared/link.rs");
 
 fn main() {
-    link(&["building_batches"]);
+    link(&["building_batches", "record_exports"]);
 }

@@ -1,5 +1,5 @@
 include!("../shared/link.rs");
 
 fn main() {
-    link(&["exports", "batches"]);
+    link(&["exports", "batches", "record_exports"]);
 }

@@ -45,6 +45,48 @@ calls! {
     tambuyeel_get_value(row: usize) -> Place;
     tambuyeel_finish(column: *mut [usize; 5]) -> u64;
     tambuyeel_finish_by_copy(column: *mut [usize; 5]) -> u64;
+    records_append_value(x: *const u8, n: usize) -> u64;
+    records_append_values(x: *const u8, n: usize, times: usize) -> u64;
+    records_append_null() -> u64;
+    records_append_block(x: *const u8, n: usize) -> Counted;
+    records_why_get(row: usize) -> u64;
+    records_get_value_is(row: usize, x: *const u8, n: usize) -> u64;
+    records_finish(column: *mut [usize; 5]) -> u64;
+    records_finish_by_copy(column: *mut [usize; 5]) -> u64;
+}
+
+/// The answer where a table has more records than the instruments hold.
+const TOO_MANY: u64 = 99;
+
+/// The same calls over a table of records, made beside the others where this is asked for: how many were made, how many had too many records, and how many
+/// answered or left something else.
+pub mod through {
+    use std::sync::atomic::{AtomicBool, AtomicU64, Ordering::Relaxed};
+
+    pub static ON: AtomicBool = AtomicBool::new(false);
+    static MADE: AtomicU64 = AtomicU64::new(0);
+    static SKIPPED: AtomicU64 = AtomicU64::new(0);
+    static DIFFERENT: AtomicU64 = AtomicU64::new(0);
+
+    pub fn on() -> bool {
+        ON.load(Relaxed)
+    }
+
+    pub(crate) fn count(number: u64, same: bool) {
+        if number == super::TOO_MANY {
+            SKIPPED.fetch_add(1, Relaxed);
+            return;
+        }
+        MADE.fetch_add(1, Relaxed);
+        if !same {
+            DIFFERENT.fetch_add(1, Relaxed);
+        }
+    }
+
+    /// Made, skipped, different.
+    pub fn counts() -> [u64; 3] {
+        [&MADE, &SKIPPED, &DIFFERENT].map(|n| n.load(Relaxed))
+    }
 }
 
 unsafe extern "C" {
@@ -75,27 +117,50 @@ macro_rules! with {
     }};
 }
 
+/// A call, and the same one over records on copies of all that it is lent: answer, state and every buffer have to be the same.
+macro_rules! both {
+    ($b:expr, $s:expr, $f:ident, $g:ident, $number:expr $(, $x:expr)*) => {{
+        if !$b.through() {
+            return with!($b, $s, $f $(, $x)*);
+        }
+        let (mut copy, mut state) = ($b.clone(), *$s);
+        let answer = with!(&mut *$b, &mut *$s, $f $(, $x)*);
+        let other = with!(&mut copy, &mut state, $g $(, $x)*);
+        through::count($number(other), other == answer && state == *$s && copy == *$b);
+        answer
+    }};
+}
+
 impl Buffers {
+    /// Whether the calls over records are made too: where it is asked for, and the table isn't too large for them.
+    fn through(&self) -> bool {
+        let few = self.lent[2] <= 16 && self.lent[3] <= 16;
+        if through::on() && !few {
+            through::count(TOO_MANY, true);
+        }
+        through::on() && few
+    }
+
     pub fn start(&mut self, s: &mut Numbers, settings: &[usize; 5]) -> u64 {
         unsafe { tambuyeel_start(settings, s, self.places.as_mut_ptr(), self.lent[5]) }
     }
 
     #[inline]
     pub fn append_value(&mut self, s: &mut Numbers, x: &[u8]) -> u64 {
-        with!(self, s, tambuyeel_append_value, x.as_ptr(), x.len())
+        both!(self, s, tambuyeel_append_value, records_append_value, |n| n, x.as_ptr(), x.len())
     }
 
     pub fn append_values(&mut self, s: &mut Numbers, x: &[u8], n: usize) -> u64 {
-        with!(self, s, tambuyeel_append_values, x.as_ptr(), x.len(), n)
+        both!(self, s, tambuyeel_append_values, records_append_values, |n| n, x.as_ptr(), x.len(), n)
     }
 
     #[inline]
     pub fn append_null(&mut self, s: &mut Numbers) -> u64 {
-        with!(self, s, tambuyeel_append_null)
+        both!(self, s, tambuyeel_append_null, records_append_null, |n| n)
     }
 
     pub fn append_block(&mut self, s: &mut Numbers, x: &[u8]) -> Counted {
-        with!(self, s, tambuyeel_append_block, x.as_ptr(), x.len())
+        both!(self, s, tambuyeel_append_block, records_append_block, |c: Counted| c.refused, x.as_ptr(), x.len())
     }
 
     pub fn append_view(&mut self, s: &mut Numbers, block: u32, offset: u32, n: u32) -> u64 {
@@ -108,15 +173,48 @@ impl Buffers {
     }
 
     pub fn get_value(&mut self, s: &mut Numbers, row: usize) -> Place {
-        with!(self, s, tambuyeel_get_value, row)
+        let place = with!(&mut *self, &mut *s, tambuyeel_get_value, row);
+        if self.through() {
+            self.get_through(s, row, place);
+        }
+        place
     }
 
     pub fn finish(&mut self, s: &mut Numbers, column: &mut [usize; 5]) -> u64 {
-        with!(self, s, tambuyeel_finish, column)
+        if !self.through() {
+            return with!(self, s, tambuyeel_finish, column);
+        }
+        let (mut copy, mut state, mut other) = (self.clone(), *s, *column);
+        let answer = with!(&mut *self, &mut *s, tambuyeel_finish, &mut *column);
+        let number = with!(&mut copy, &mut state, records_finish, &mut other);
+        through::count(number, number == answer && state == *s && other == *column && copy == *self);
+        answer
     }
 
     pub fn finish_by_copy(&mut self, s: &mut Numbers, column: &mut [usize; 5]) -> u64 {
-        with!(self, s, tambuyeel_finish_by_copy, column)
+        if !self.through() {
+            return with!(self, s, tambuyeel_finish_by_copy, column);
+        }
+        let (mut copy, mut state, mut other) = (self.clone(), *s, *column);
+        let answer = with!(&mut *self, &mut *s, tambuyeel_finish_by_copy, &mut *column);
+        let number = with!(&mut copy, &mut state, records_finish_by_copy, &mut other);
+        through::count(number, number == answer && state == *s && other == *column && copy == *self);
+        answer
+    }
+
+    /// A row's value over records: the same refusal, the part at that place, and still that part when its bytes are others.
+    fn get_through(&self, s: &Numbers, row: usize, place: Place) {
+        let (mut copy, mut state) = (self.clone(), *s);
+        let number = with!(&mut copy, &mut state, records_why_get, row);
+        let mut same = number == place.refused;
+        for _ in 0..2 {
+            let part = place.offset..place.offset + place.len;
+            let want = if place.buffer == 0 { copy.views[part.clone()].to_vec() } else { copy.bytes[part.clone()].to_vec() };
+            same &= with!(&mut copy, &mut state, records_get_value_is, row, want.as_ptr(), want.len()) == 1;
+            let from = if place.buffer == 0 { &mut copy.views } else { &mut copy.bytes };
+            from[part].iter_mut().for_each(|b| *b ^= 255);
+        }
+        through::count(number, same);
     }
 }
 

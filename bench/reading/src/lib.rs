@@ -39,6 +39,8 @@ declared! {
     tambuyeel_check()() -> Told;
     bench_count_less()() -> u64;
     bench_read_all()() -> u64;
+    records_why_value()(row) -> u64;
+    records_check()() -> Told;
 }
 
 unsafe extern "C" {
@@ -49,6 +51,20 @@ unsafe extern "C" {
         views2: *const u8, views_len2: usize, bytes2: *const u8, bytes_len2: usize,
         starts2: *const usize, starts_len2: usize, lens2: *const usize, lens_len2: usize,
         nulls2: *const u8, nulls_len2: usize, column2: *const usize, j: usize,
+    ) -> u64;
+    fn records_compare(
+        views: *const u8, views_len: usize, bytes: *const u8, bytes_len: usize,
+        starts: *const usize, starts_len: usize, lens: *const usize, lens_len: usize,
+        nulls: *const u8, nulls_len: usize, column: *const usize, i: usize,
+        views2: *const u8, views_len2: usize, bytes2: *const u8, bytes_len2: usize,
+        starts2: *const usize, starts_len2: usize, lens2: *const usize, lens_len2: usize,
+        nulls2: *const u8, nulls_len2: usize, column2: *const usize, j: usize,
+    ) -> u64;
+    fn records_value_is(
+        views: *const u8, views_len: usize, bytes: *const u8, bytes_len: usize,
+        starts: *const usize, starts_len: usize, lens: *const usize, lens_len: usize,
+        nulls: *const u8, nulls_len: usize, column: *const usize, row: usize,
+        want: *const u8, want_len: usize,
     ) -> u64;
     fn tambuyeel_same_column(
         views: *const u8, views_len: usize, bytes: *const u8, bytes_len: usize,
@@ -124,6 +140,32 @@ impl Lent {
 
     pub fn compare(&self, i: usize, that: &Lent, j: usize) -> u64 {
         lent!(tambuyeel_compare(), self, (i), that, (j))
+    }
+
+    /// The same calls over a table of records.
+    pub fn why_value_through(&self, row: usize) -> u64 {
+        lent!(records_why_value(), self, (row))
+    }
+
+    pub fn check_through(&self) -> Told {
+        lent!(records_check(), self, ())
+    }
+
+    pub fn compare_through(&self, i: usize, that: &Lent, j: usize) -> u64 {
+        lent!(records_compare(), self, (i), that, (j))
+    }
+
+    /// Whether a row's value over records is the part at a place, and still that part when its bytes are others.
+    pub fn value_through(&self, row: usize, buffer: u64, offset: usize, len: usize) -> bool {
+        let mut lent = self.clone();
+        (0..2).all(|_| {
+            let from = if buffer == 1 { &mut lent.bytes } else { &mut lent.views };
+            let want = from[offset..offset + len].to_vec();
+            let same = lent!(records_value_is(), lent, (row, want.as_ptr(), want.len())) == 1;
+            let from = if buffer == 1 { &mut lent.bytes } else { &mut lent.views };
+            from[offset..offset + len].iter_mut().for_each(|b| *b ^= 255);
+            same
+        })
     }
 
     pub fn same_column(&self, that: &Lent) -> Told {

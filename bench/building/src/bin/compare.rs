@@ -554,10 +554,21 @@ fn original(seed: u64, groups: usize) {
     println!("{calls} calls in {groups} groups, {both} of them where the original agrees with the model; no difference");
 }
 
+/// How many calls were also made over records; fails where one was different.
+fn over_records() {
+    let [made, skipped, different] = building::through::counts();
+    println!("over records: {made} calls, {different} different; {skipped} had too many records");
+    if different > 0 {
+        std::process::exit(1);
+    }
+}
+
 fn main() {
     let args: Vec<String> = std::env::args().collect();
+    building::through::ON.store(true, std::sync::atomic::Ordering::Relaxed);
     if args[1] == "original" {
-        return original(args[2].parse().unwrap(), args[3].parse().unwrap());
+        original(args[2].parse().unwrap(), args[3].parse().unwrap());
+        return over_records();
     }
     let (seed, most): (u64, u64) = (args[1].parse().unwrap(), args[2].parse().unwrap());
     let long = vec![b'z'; 16_777_217 + 2];
@@ -600,4 +611,5 @@ fn main() {
     }
     table.print();
     println!("{calls} calls in {k} scripts; no difference");
+    over_records();
 }

@@ -43,10 +43,16 @@ fn ours(q: &Question, left: &Lent, right: &Lent) -> Vec<(&'static str, Said)> {
         }
         8 => vec![("total_bytes_len", counted(left.total_bytes_len()))],
         9 => vec![("total_buffer_bytes_used", counted(left.total_buffer_bytes_used()))],
-        10 => vec![("compare", of_two(left.compare(a, right, b), 0))],
+        10 => vec![
+            ("compare", of_two(left.compare(a, right, b), 0)),
+            ("compare over records", of_two(left.compare_through(a, right, b), 0)),
+        ],
         11 => {
-            let told = left.check();
-            vec![("check", (told.number, 0, told.row as u64, 0, [0; 3]))]
+            let (told, through) = (left.check(), left.check_through());
+            vec![
+                ("check", (told.number, 0, told.row as u64, 0, [0; 3])),
+                ("check over records", (through.number, 0, through.row as u64, 0, [0; 3])),
+            ]
         }
         12 => {
             let told = left.same_column(right);
@@ -55,7 +61,14 @@ fn ours(q: &Question, left: &Lent, right: &Lent) -> Vec<(&'static str, Said)> {
         // A step of the row walk asks for its place's value.
         _ => {
             let why = left.why_value(a) as u64;
-            vec![("value", placed(left.value(a))), ("why_value", (why, 0, 0, 0, [0; 3]))]
+            let [which, offset, len] = q.expected.part;
+            let there = left.value_through(a, which.max(1) - 1, offset as usize, len as usize);
+            let part = if there { q.expected.part } else { [9; 3] };
+            vec![
+                ("value", placed(left.value(a))),
+                ("why_value", (why, 0, 0, 0, [0; 3])),
+                ("value over records", (left.why_value_through(a), 0, 0, 0, part)),
+            ]
         }
     }
 }
@@ -75,7 +88,7 @@ fn side(q: &Question, g: &Group) -> u64 {
 /// The expected answer as far as the call gives it: rows are named by the check and by same column alone.
 fn expected(name: &str, q: &Question, g: &Group) -> Said {
     let e = &q.expected;
-    let row = if name == "check" || name == "same_column" { e.row } else { 0 };
+    let row = if name.starts_with("check") || name == "same_column" { e.row } else { 0 };
     let number = if q.call == 13 { 0 } else { e.number };
     let part = if name == "why_value" { [0; 3] } else { e.part };
     (e.refusal, side(q, g), row, number, part)

@@ -1,5 +1,5 @@
 // Replays data/building.bin, the fixed list of builder calls that oracle/README.md lays out, through the calls for C and Rust: groups of calls on one
-// builder, from its start on.
+// builder, from its start on. Then it does the same over a table of records: start, view and column alone, which have no such form, are asked as before.
 // After each call its answer, the whole state and a column answered are compared, and after a group every lent buffer. Writes how many groups, calls
 // and refusals there were,
 // how many calls and how many groups' buffers differed, the first such call, and whether the list ended inside a group.
@@ -39,8 +39,8 @@ fn plain(refusal: u64, row: usize, number: usize) -> Said {
     }
 }
 
-// Calls 1, 2, 3 and 5: those that add rows.
-fn add_rows(
+// Calls 1, 2 and 3 over a table of records.
+fn through_rows(
     q: &[u8; 168],
     x: &[u8],
     state: &mut [usize; 11],
@@ -53,8 +53,74 @@ fn add_rows(
 ) -> Said {
     let call = input::word(q, 0);
     let a = input::word(q, 1);
+    if call == 1 {
+        return plain(
+            record_exports::records_append_value(
+                state,
+                views,
+                bytes,
+                starts,
+                lens,
+                nulls,
+                places,
+                x,
+            ),
+            0,
+            0,
+        );
+    }
+    if call == 2 {
+        return plain(
+            record_exports::records_append_values(
+                state,
+                views,
+                bytes,
+                starts,
+                lens,
+                nulls,
+                places,
+                x,
+                a,
+            ),
+            0,
+            0,
+        );
+    }
+    plain(
+        record_exports::records_append_null(
+            state,
+            views,
+            &bytes[..],
+            &starts[..],
+            &lens[..],
+            nulls,
+            &places[..],
+        ),
+        0,
+        0,
+    )
+}
+
+// Calls 1, 2, 3 and 5: those that add rows.
+fn add_rows(
+    q: &[u8; 168],
+    x: &[u8],
+    through: bool,
+    state: &mut [usize; 11],
+    views: &mut [u8],
+    bytes: &mut [u8],
+    starts: &mut [usize],
+    lens: &mut [usize],
+    nulls: &mut [u8],
+    places: &mut [u32],
+) -> Said {
+    let call = input::word(q, 0);
+    let a = input::word(q, 1);
     let b = input::word(q, 2);
     let c = input::word(q, 3);
+    if through && call < 4 {
+        return through_rows(q, x, state, views, bytes, starts, lens, nulls, places);
+    }
     if call == 1 {
         return plain(
             builder_exports::tambuyeel_append_value(
@@ -184,6 +250,7 @@ fn add_column(
 fn add_blocks(
     q: &[u8; 168],
     x: &[u8],
+    through: bool,
     state: &mut [usize; 11],
     views: &mut [u8],
     bytes: &mut [u8],
@@ -192,6 +259,19 @@ fn add_blocks(
     nulls: &mut [u8],
     places: &[u32],
 ) -> Said {
+    if through && input::word(q, 0) == 4 {
+        let c = record_exports::records_append_block(
+            state,
+            &views[..],
+            bytes,
+            starts,
+            lens,
+            &nulls[..],
+            places,
+            x,
+        );
+        return plain(c.refused, 0, c.number);
+    }
     if input::word(q, 0) == 4 {
         let c = builder_exports::tambuyeel_append_block(
             state,
@@ -223,13 +303,125 @@ fn part(p: builder_exports::Place, row: usize) -> Said {
     }
 }
 
-// Calls 7, 8 and 9: a row's value, and the finishes.
-fn look_or_end(
+// The bytes that the list names: 1 of the views, 2 of the data.
+fn part_of<'a>(views: &'a [u8], bytes: &'a [u8], q: &[u8; 168]) -> &'a [u8] {
+    let at = input::word(q, 9);
+    let n = input::word(q, 10);
+    if input::word(q, 8) == 1 {
+        return input::cut(views, at, n);
+    }
+    input::cut(bytes, at, n)
+}
+
+// Call 7 over a table of records: the refusal's number, and the part that the list names if it is the one answered; else none of this length.
+fn through_get<'a>(
+    q: &[u8; 168],
+    state: &[usize; 11],
+    views: &'a [u8],
+    bytes: &'a [u8],
+    starts: &[usize],
+    lens: &[usize],
+    nulls: &[u8],
+    places: &[u32],
+) -> Said {
+    let row = input::word(q, 1);
+    let want = part_of(views, bytes, q);
+    let refused = record_exports::records_why_get(
+        state,
+        views,
+        bytes,
+        starts,
+        lens,
+        nulls,
+        places,
+        row,
+    );
+    let same = record_exports::records_get_value_is(
+        state,
+        views,
+        bytes,
+        starts,
+        lens,
+        nulls,
+        places,
+        row,
+        want,
+    );
+    Said {
+        refusal: refused as usize,
+        row: if refused == 11 { row } else { 0 },
+        number: if same == 1 { 0 } else { 1 },
+        which: input::word(q, 8),
+        at: input::word(q, 9),
+        len: want.len(),
+    }
+}
+
+// Calls 7, 8 and 9 over a table of records.
+fn through_end<'a>(
     q: &[u8; 168],
     state: &mut [usize; 11],
     column: &mut [usize; 5],
-    views: &[u8],
-    bytes: &[u8],
+    views: &'a [u8],
+    bytes: &'a [u8],
+    starts: &mut [usize],
+    lens: &mut [usize],
+    nulls: &[u8],
+    places: &mut [u32],
+) -> Said {
+    let call = input::word(q, 0);
+    if call == 7 {
+        return through_get(
+            q,
+            state,
+            views,
+            bytes,
+            &starts[..],
+            &lens[..],
+            nulls,
+            &places[..],
+        );
+    }
+    if call == 8 {
+        return plain(
+            record_exports::records_finish(
+                state,
+                views,
+                bytes,
+                starts,
+                lens,
+                nulls,
+                places,
+                column,
+            ),
+            0,
+            0,
+        );
+    }
+    plain(
+        record_exports::records_finish_by_copy(
+            state,
+            views,
+            bytes,
+            starts,
+            lens,
+            nulls,
+            &places[..],
+            column,
+        ),
+        0,
+        0,
+    )
+}
+
+// Calls 7, 8 and 9: a row's value, and the finishes.
+fn look_or_end<'a>(
+    q: &[u8; 168],
+    through: bool,
+    state: &mut [usize; 11],
+    column: &mut [usize; 5],
+    views: &'a [u8],
+    bytes: &'a [u8],
     starts: &mut [usize],
     lens: &mut [usize],
     nulls: &[u8],
@@ -237,6 +429,9 @@ fn look_or_end(
 ) -> Said {
     let call = input::word(q, 0);
     let row = input::word(q, 1);
+    if through {
+        return through_end(q, state, column, views, bytes, starts, lens, nulls, places);
+    }
     if call == 7 {
         let p = builder_exports::tambuyeel_get_value(
             state,
@@ -389,6 +584,7 @@ fn brings_blocks(call: usize) -> bool {
 fn ask(
     q: &[u8; 168],
     x: &[u8],
+    through: bool,
     settings: &[usize; 5],
     state: &mut [usize; 11],
     views: &mut [u8],
@@ -403,6 +599,7 @@ fn ask(
     if 7 <= call {
         let s = look_or_end(
             q,
+            through,
             state,
             &mut column,
             &views[..],
@@ -415,10 +612,32 @@ fn ask(
         return agrees(s, state, settings, &column, q);
     }
     if brings_blocks(call) {
-        let s = add_blocks(q, x, state, views, bytes, starts, lens, nulls, &places[..]);
+        let s = add_blocks(
+            q,
+            x,
+            through,
+            state,
+            views,
+            bytes,
+            starts,
+            lens,
+            nulls,
+            &places[..],
+        );
         return agrees(s, state, settings, &column, q);
     }
-    let s = add_rows(q, x, state, views, bytes, starts, lens, nulls, places);
+    let s = add_rows(
+        q,
+        x,
+        through,
+        state,
+        views,
+        bytes,
+        starts,
+        lens,
+        nulls,
+        places,
+    );
     agrees(s, state, settings, &column, q)
 }
 
@@ -465,6 +684,7 @@ fn torn(t: Tally) -> Tally {
 // A call of the list read and asked.
 fn turn(
     fd: i32,
+    through: bool,
     settings: &[usize; 5],
     state: &mut [usize; 11],
     views: &mut [u8],
@@ -490,6 +710,7 @@ fn turn(
     let right = ask(
         &q,
         input::cut(&x, 0, n),
+        through,
         settings,
         state,
         views,
@@ -556,6 +777,7 @@ fn counted_buffers(t: Tally, views: bool, bytes: bool, table: bool, nulls: bool)
 // The n calls of a group, and the buffers after them.
 fn calls(
     fd: i32,
+    through: bool,
     settings: &[usize; 5],
     state: &mut [usize; 11],
     views: &mut [u8],
@@ -572,6 +794,7 @@ fn calls(
     while k < n {
         t = turn(
             fd,
+            through,
             settings,
             state,
             views,
@@ -597,6 +820,7 @@ fn calls(
 // A group over its buffers: the builder is started, then called.
 fn begun(
     fd: i32,
+    through: bool,
     settings: &[usize; 5],
     state: &mut [usize; 11],
     views: &mut [u8],
@@ -613,6 +837,7 @@ fn begun(
     }
     calls(
         fd,
+        through,
         settings,
         state,
         views,
@@ -627,7 +852,7 @@ fn begun(
 }
 
 // A group: its head has been read.
-fn group(fd: i32, head: &[u8; 96], t: Tally) -> Tally {
+fn group(fd: i32, through: bool, head: &[u8; 96], t: Tally) -> Tally {
     let settings = [
         input::word(head, 2),
         input::word(head, 3),
@@ -665,6 +890,7 @@ fn group(fd: i32, head: &[u8; 96], t: Tally) -> Tally {
     let mut state = [0usize; 11];
     begun(
         fd,
+        through,
         &settings,
         &mut state,
         &mut views[..v],
@@ -679,7 +905,7 @@ fn group(fd: i32, head: &[u8; 96], t: Tally) -> Tally {
 }
 
 // The next group, or the list's end.
-fn next_group(fd: i32, t: Tally) -> Tally {
+fn next_group(fd: i32, through: bool, t: Tally) -> Tally {
     let mut head = [0u8; 96];
     let got = io::read_full(fd, &mut head);
     if got == 0 {
@@ -707,11 +933,11 @@ fn next_group(fd: i32, t: Tally) -> Tally {
         torn: false,
         ended: false,
     };
-    group(fd, &head, begun)
+    group(fd, through, &head, begun)
 }
 
 // All groups, up to more than any list has.
-fn replay(fd: i32) -> Tally {
+fn replay(fd: i32, through: bool) -> Tally {
     let mut t = Tally {
         groups: 0,
         calls: 0,
@@ -724,7 +950,7 @@ fn replay(fd: i32) -> Tally {
     };
     let mut k = 0usize;
     while k < 1000000 {
-        t = next_group(fd, t);
+        t = next_group(fd, through, t);
         if t.ended {
             return t;
         }
@@ -739,14 +965,7 @@ fn say(name: &[u8], n: u64) {
     io::write_all(STDOUT_FILENO, b"\n");
 }
 
-fn main() {
-    let fd = os::open_read(b"building.bin");
-    if fd < 0 {
-        io::write_all(STDOUT_FILENO, b"no building.bin\n");
-        return;
-    }
-    let t = replay(fd);
-    libc::close(fd);
+fn tell(t: Tally) {
     say(b"groups=", t.groups);
     say(b"calls=", t.calls);
     say(b"refused=", t.refused);
@@ -754,4 +973,22 @@ fn main() {
     say(b"first=", t.first);
     say(b"buffers=", t.buffers);
     say(b"torn=", if t.torn { 1 } else { 0 });
+}
+
+// The list, over number slices or over records.
+fn list(through: bool) {
+    let fd = os::open_read(b"building.bin");
+    if fd < 0 {
+        io::write_all(STDOUT_FILENO, b"no building.bin\n");
+        return;
+    }
+    let t = replay(fd, through);
+    libc::close(fd);
+    tell(t);
+}
+
+fn main() {
+    list(false);
+    io::write_all(STDOUT_FILENO, b"over records\n");
+    list(true);
 }

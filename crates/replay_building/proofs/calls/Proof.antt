@@ -7,12 +7,12 @@ use Rattle.replay_building.proofs.calls.Statement.{statement}
 use Rattle.replay_building.proofs.calls.Tie as tie
 
 abbrev Inv-loop : tie.InvT-loop
-Inv-loop fd settings state₀ views₀ bytes₀ starts₀ lens₀ nulls₀ places₀ n t₀ k₀ state views bytes starts lens nulls places t k =
+Inv-loop fd through settings state₀ views₀ bytes₀ starts₀ lens₀ nulls₀ places₀ n t₀ k₀ state views bytes starts lens nulls places t k =
     (k ≤ n) × (n < 2 ^ 64) × (length views ≡ length views₀) × (length bytes ≡ length bytes₀) × (length starts ≡ length starts₀)
     × (length lens ≡ length lens₀) × (length nulls ≡ length nulls₀) × (length places ≡ length places₀)
 
 abbrev μ-loop : tie.MeasureT-loop
-μ-loop fd settings state₀ views₀ bytes₀ starts₀ lens₀ nulls₀ places₀ n t₀ k₀ state views bytes starts lens nulls places t k =
+μ-loop fd through settings state₀ views₀ bytes₀ starts₀ lens₀ nulls₀ places₀ n t₀ k₀ state views bytes starts lens nulls places t k =
     n - k
 
 loop-holds : tie.Need-loop-holds Inv-loop μ-loop

@@ -5,10 +5,10 @@ use Rattle.replay_building.proofs.replay.Statement.{statement}
 use Rattle.replay_building.proofs.replay.Tie as tie
 
 abbrev Inv-loop : tie.InvT-loop
-Inv-loop fd t₀ k₀ t k = k ≤ 1000000
+Inv-loop fd through t₀ k₀ t k = k ≤ 1000000
 
 abbrev μ-loop : tie.MeasureT-loop
-μ-loop fd t₀ k₀ t k = 1000000 - k
+μ-loop fd through t₀ k₀ t k = 1000000 - k
 
 loop-holds : tie.Need-loop-holds Inv-loop μ-loop
 loop-holds c = search needs

@@ -1,6 +1,6 @@
 // Replays data/compaction.bin and data/offsets.bin, the fixed lists of answers that oracle/README.md lays out: the refusal, the row that it names, the new
 // column, and every byte of the output's buffers. Writes for each list how many records there were, how many were accepted, how many were answered
-// otherwise, the first of those, and whether the list ended inside a record.
+// otherwise, the first of those, and whether the list ended inside a record. An offset column is also asked for over a table of records.
 mod input;
 
 ghost use mathlib.Core.Path.{_≡_};
@@ -12,6 +12,7 @@ use column::Column;
 use column::Kind;
 use input::Sizes;
 use libc::STDOUT_FILENO;
+use output_blocks::Layout;
 
 // Every byte of an output buffer before the call.
 const BEFORE: u8 = 0xaa;
@@ -230,6 +231,98 @@ fn convert<'a>(
     Said { why, column }
 }
 
+// The same over a table of records.
+fn convert_through<'a>(
+    offsets: &[u8],
+    bytes: &'a [u8],
+    nulls: &[u8],
+    mapped: bool,
+    kind: Kind,
+    newviews: &mut [u8],
+    newbytes: &mut [u8],
+    newstarts: &mut [usize],
+    newlens: &mut [usize],
+    newnulls: &mut [u8],
+    s: Sizes,
+) -> Said
+    requires { ⌜ (s .views ≤ length (now newviews)) × (s .bytes ≤ length (now newbytes)) × (s .blocks ≤ 16) × (s .nulls ≤ length (now newnulls)) ⌝ }
+{
+    let nv = s.views;
+    let nb = s.bytes;
+    let nt = s.blocks;
+    let nm = s.nulls;
+    let starts = [BEFORE_NUMBER; 16];
+    let lens = [BEFORE_NUMBER; 16];
+    let done = through_records::from_offsets(
+        &starts,
+        &lens,
+        nt,
+        offsets,
+        bytes,
+        nulls,
+        Layout { mapped, kind },
+        &mut newviews[..nv],
+        &mut newbytes[..nb],
+        &mut newnulls[..nm],
+        newstarts,
+        newlens,
+    );
+    let why = done.why;
+    let column = done.column;
+    Said { why, column }
+}
+
+// Whether the offset column over a table of records is the list's.
+fn through_agrees<'a>(
+    offsets: &[u8],
+    bytes: &'a [u8],
+    nulls: &[u8],
+    mapped: bool,
+    kind: Kind,
+    views2: &[u8],
+    bytes2: &[u8],
+    starts2: &[usize],
+    lens2: &[usize],
+    nulls2: &[u8],
+    s: Sizes,
+    answer: &[u8; 40],
+) -> bool
+    requires { ⌜ (s .views ≤ 1024) × (s .bytes ≤ 1024) × (s .blocks ≤ 16) × (s .nulls ≤ 16) ⌝ }
+{
+    let mut newviews = [BEFORE; 1024];
+    let mut newbytes = [BEFORE; 1024];
+    let mut newstarts = [BEFORE_NUMBER; 16];
+    let mut newlens = [BEFORE_NUMBER; 16];
+    let mut newnulls = [BEFORE; 16];
+    let said = convert_through(
+        offsets,
+        bytes,
+        nulls,
+        mapped,
+        kind,
+        &mut newviews,
+        &mut newbytes,
+        &mut newstarts,
+        &mut newlens,
+        &mut newnulls,
+        s,
+    );
+    let same = same_buffers(
+        &newviews,
+        &newbytes,
+        &newstarts,
+        &newlens,
+        &newnulls,
+        views2,
+        bytes2,
+        starts2,
+        lens2,
+        nulls2,
+        s,
+    );
+    both(agrees(said, answer), same)
+}
+
 // Whether buffers of these sizes find room in ours.
 fn in_room(s: Sizes) -> bool
     ensures { λ r. ⌜ (r ≡ true → (s .views ≤ 1024) × (s .bytes ≤ 1024) × (s .blocks ≤ 16) × (s .nulls ≤ 16)) ⌝ }
@@ -323,45 +416,29 @@ fn compacted<'a>(
     )
 }
 
-// An offset column whose source is read.
-fn converted<'a>(
-    fd: i32,
+// An offset column whose source and expected buffers are read, by number slices and over a table of records.
+fn judged<'a>(
     offsets: &[u8],
     bytes: &'a [u8],
     nulls: &[u8],
     mapped: bool,
     kind: Kind,
+    views2: &[u8],
+    bytes2: &[u8],
+    starts2: &[usize],
+    lens2: &[usize],
+    nulls2: &[u8],
     s: Sizes,
+    answer: &[u8; 40],
     t: Tally,
-) -> Tally {
-    let mut answer = [0u8; 40];
-    let mut views2 = [0u8; 1024];
-    let mut bytes2 = [0u8; 1024];
-    let mut starts2 = [0usize; 16];
-    let mut lens2 = [0usize; 16];
-    let mut nulls2 = [0u8; 16];
+) -> Tally
+    requires { ⌜ (s .views ≤ 1024) × (s .bytes ≤ 1024) × (s .blocks ≤ 16) × (s .nulls ≤ 16) ⌝ }
+{
     let mut newviews = [BEFORE; 1024];
     let mut newbytes = [BEFORE; 1024];
     let mut newstarts = [BEFORE_NUMBER; 16];
     let mut newlens = [BEFORE_NUMBER; 16];
     let mut newnulls = [BEFORE; 16];
-    if !in_room(s) {
-        return stopped(t, true);
-    }
-    if io::read_full(fd, &mut answer) < 40 {
-        return stopped(t, true);
-    }
-    if !input::load(
-        fd,
-        &mut views2,
-        &mut bytes2,
-        &mut starts2,
-        &mut lens2,
-        &mut nulls2,
-        s,
-    ) {
-        return stopped(t, true);
-    }
     let said = convert(
         offsets,
         bytes,
@@ -381,18 +458,83 @@ fn converted<'a>(
         &newstarts,
         &newlens,
         &newnulls,
+        views2,
+        bytes2,
+        starts2,
+        lens2,
+        nulls2,
+        s,
+    );
+    let why = said.why;
+    let through = through_agrees(
+        offsets,
+        bytes,
+        nulls,
+        mapped,
+        kind,
+        views2,
+        bytes2,
+        starts2,
+        lens2,
+        nulls2,
+        s,
+        answer,
+    );
+    counted(
+        t,
+        bounds::is_accepted(why),
+        both(both(agrees(said, answer), same), through),
+    )
+}
+
+// An offset column whose source is read.
+fn converted<'a>(
+    fd: i32,
+    offsets: &[u8],
+    bytes: &'a [u8],
+    nulls: &[u8],
+    mapped: bool,
+    kind: Kind,
+    s: Sizes,
+    t: Tally,
+) -> Tally {
+    let mut answer = [0u8; 40];
+    let mut views2 = [0u8; 1024];
+    let mut bytes2 = [0u8; 1024];
+    let mut starts2 = [0usize; 16];
+    let mut lens2 = [0usize; 16];
+    let mut nulls2 = [0u8; 16];
+    if !in_room(s) {
+        return stopped(t, true);
+    }
+    if io::read_full(fd, &mut answer) < 40 {
+        return stopped(t, true);
+    }
+    if !input::load(
+        fd,
+        &mut views2,
+        &mut bytes2,
+        &mut starts2,
+        &mut lens2,
+        &mut nulls2,
+        s,
+    ) {
+        return stopped(t, true);
+    }
+    judged(
+        offsets,
+        bytes,
+        nulls,
+        mapped,
+        kind,
         &views2,
         &bytes2,
         &starts2,
         &lens2,
         &nulls2,
         s,
-    );
-    let why = said.why;
-    counted(
+        &answer,
         t,
-        bounds::is_accepted(why),
-        both(agrees(said, &answer), same),
     )
 }
 

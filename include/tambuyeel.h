@@ -1,6 +1,6 @@
 /* Columns of byte views for C99 and C++: reading, comparison, the check, the builder, compaction and the offset column.
 
-   Link target/libtambuyeel.a, which ./library makes of the proved crates exports, text_exports, builder_exports and output_exports. It is
+   Link target/libtambuyeel.a, which ./library makes of the proved crates exports, text_exports, builder_exports, times_exports and output_exports. It is
    built for x86-64 Linux alone. The calls are proved in Rattle; this header is written by hand, and nothing proves that it says the same.
 
    What is lent

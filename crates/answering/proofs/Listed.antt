@@ -17,40 +17,41 @@ use Rattle.builder.specs.State.{Builder, rowsRoom, allBlocks}
 use Rattle.builder.specs.Get.{columnOf}
 use Rattle.builder.specs.Start.{whyStart, startState, startPlaces, start}
 use Rattle.builder.specs.Finish.{whyFinish, finished, finishColumn}
-use Rattle.promise.specs.Calls.{put, Cell, after, rowsAfter, Ran}
+use Rattle.promise.specs.Calls.{put, Cell, cellsAfter, rowsAfter, Ran}
 use Rattle.promise.specs.Kept.{Filed, done}
 use Rattle.promise.proofs.Fits.{are-fits}
 use Rattle.promise.proofs.Steps.{Inv}
 use Rattle.promise.proofs.Finishing.{inv-start, shows-finished}
 use Rattle.shelf.specs.declared.Line.{Line}
 use Rattle.shelf.specs.declared.Line.the-variants.{Code, Null, Bad}
-use Rattle.shelf.specs.Lines.{lines, says, valueOf, isBad, firstBad}
+use Rattle.shelf.specs.Lines.{lines, says, valueOf, isBadLine, firstBadLine}
 use Rattle.shelf.specs.Adding.{shelfSettings, addedAll, built, shelfLent, shelfColumn}
-use Rattle.whole.specs.Answer.{row, rowOf, isCode, nullsIn, bytesIn, blockBytesIn, blocksIn}
-use Rattle.whole.specs.Pieces.{Shows, answered}
-use Rattle.whole.specs.Sizes.{rooms}
-use Rattle.answering.specs.Rows.{callFor, cellFor, callOf, cellOf}
-use Rattle.answering.specs.Listed.{Enough, Good, Listed}
+use Rattle.whole.specs.Answer.{row, rowSaid, isCode, nullsIn, validBytes, blockBytesIn, blocksUsed}
+use Rattle.whole.specs.Pieces.{ShowsRows, answered}
+use Rattle.whole.specs.Sizes.{rooms-hold}
+use Rattle.answering.specs.Rows.{callFor, lineCell, callOf, cellOfLine}
+use Rattle.answering.specs.Listed.{Enough, GoodInput, LinesListed}
 use Rattle.answering.proofs.Numbers.{Numbers}
 use Rattle.answering.proofs.Added.{null-empty, Ended, all-added}
 use Rattle.answering.proofs.Totals.{rowFor, rows-listed, nulls-listed, bytes-listed, long-listed}
 
 -- ---- the row that a good line says is the one that its call makes
 
-row-cell : (t : Line) (x : List ℕ) → isBad t ≡ false → (t ≡ Null → x ≡ []) → row (isCode t) x ≡ rowFor (cellFor t x)
+row-cell : (t : Line) (x : List ℕ) → isBadLine t ≡ false → (t ≡ Null → x ≡ []) → row (isCode t) x ≡ rowFor (lineCell t x)
 row-cell Code x g z = refl
 row-cell Null x g z = ap (row false) (z refl)
 row-cell Bad x g z = absurd (true≢false g)
 
-rows-cells : (k : ℕ) (ls : List (List ℕ)) → firstBad k ls ≡ 0 → map rowOf ls ≡ map rowFor (map cellOf ls)
-unfolding firstBad
+rows-cells : (k : ℕ) (ls : List (List ℕ)) → firstBadLine k ls ≡ 0 → map rowSaid ls ≡ map rowFor (map cellOfLine ls)
+unfolding firstBadLine
 rows-cells k [] g = refl
-rows-cells k (l ∷ ls) g = go (isBad (says l)) refl g (rows-cells (suc k) ls)
+rows-cells k (l ∷ ls) g = go (isBadLine (says l)) refl g (rows-cells (suc k) ls)
   where
-    go : (t : Bool) → isBad (says l) ≡ t → pick t (suc k) (firstBad (suc k) ls) ≡ 0 → (firstBad (suc k) ls ≡ 0 → map rowOf ls ≡ map rowFor (map cellOf ls))
-        → map rowOf (l ∷ ls) ≡ map rowFor (map cellOf (l ∷ ls))
+    go : (t : Bool) → isBadLine (says l) ≡ t → pick t (suc k) (firstBadLine (suc k) ls) ≡ 0 → (firstBadLine (suc k) ls ≡ 0
+        → map rowSaid ls ≡ map rowFor (map cellOfLine ls))
+        → map rowSaid (l ∷ ls) ≡ map rowFor (map cellOfLine (l ∷ ls))
     go true e g rest = absurd (omega arith)
-    go false e g rest = let a : rowOf l ≡ rowFor (cellOf l) = row-cell (says l) (valueOf l) e (null-empty l) in λ i. a i ∷ rest g i
+    go false e g rest = let a : rowSaid l ≡ rowFor (cellOfLine l) = row-cell (says l) (valueOf l) e (null-empty l) in λ i. a i ∷ rest g i
 
 -- ---- the start
 
@@ -84,17 +85,17 @@ module _ (vs bs ss ns ms ps : List ℕ) where
 
 -- ---- what the calls put in the rows
 
-after-call : (t : Line) (x : List ℕ) (b : Builder) (xs : List Cell) → after (callFor t x) b xs ≡ xs ++ cellFor t x ∷ []
+after-call : (t : Line) (x : List ℕ) (b : Builder) (xs : List Cell) → cellsAfter (callFor t x) b xs ≡ xs ++ lineCell t x ∷ []
 after-call Code x b xs = refl
 after-call Null x b xs = refl
 after-call Bad x b xs = refl
 
-rows-after : (ls : List (List ℕ)) (b : Builder) (xs : List Cell) → rowsAfter (map callOf ls) b xs ≡ xs ++ map cellOf ls
+rows-after : (ls : List (List ℕ)) (b : Builder) (xs : List Cell) → rowsAfter (map callOf ls) b xs ≡ xs ++ map cellOfLine ls
 unfolding rowsAfter
 rows-after [] b xs = sym (append-nil xs)
 rows-after (l ∷ ls) b xs =
     ap (rowsAfter (map callOf ls) (put (callOf l) b)) (after-call (says l) (valueOf l) b xs)
-    ∙ (rows-after ls (put (callOf l) b) (xs ++ cellOf l ∷ []) ∙ append-assoc xs (cellOf l ∷ []) (map cellOf ls))
+    ∙ (rows-after ls (put (callOf l) b) (xs ++ cellOfLine l ∷ []) ∙ append-assoc xs (cellOfLine l ∷ []) (map cellOfLine ls))
 
 -- ---- all lines
 
@@ -107,7 +108,7 @@ all-blocks b n a = rw (a .fill, a .blocks) (go (eqb n 0))
     go true = refl
     go false = refl
 
-module _ (s vs bs ss ns ms ps : List ℕ) (e : Enough vs bs ss ns ms) (g : Good s) where
+module _ (s vs bs ss ns ms ps : List ℕ) (e : Enough vs bs ss ns ms) (g : GoodInput s) where
   abbrev b : Builder
   b = built s vs bs ss ns ms ps
 
@@ -116,16 +117,16 @@ module _ (s vs bs ss ns ms ps : List ℕ) (e : Enough vs bs ss ns ms) (g : Good 
   same = refl
 
   abbrev n : ℕ
-  n = blockBytesIn (map rowOf (lines s))
+  n = blockBytesIn (map rowSaid (lines s))
 
   ended : Ended (rowsRoom (first vs bs ss ns ms ps)) (0 + n) (lines s) (first vs bs ss ns ms ps) []
   ended =
-      let r = rooms s (g .size) (g .lines) in
+      let r = rooms-hold s (g .size) (g .lines) in
       all-added (lines s) 0 0 (first vs bs ss ns ms ps) [] (g .lines) (inv-start shelfSettings (lent vs bs ss ns ms) ps started) (numbers vs bs ss ns ms ps e)
       (omega (arith, r .0, row-room vs bs ss ns ms ps e)) (omega (arith, r .1))
 
-  inv : Inv (rowsRoom (first vs bs ss ns ms ps)) b (map cellOf (lines s))
-  inv = subst (λ (z : Builder). Inv (rowsRoom (first vs bs ss ns ms ps)) z (map cellOf (lines s))) same (ended .inv)
+  inv : Inv (rowsRoom (first vs bs ss ns ms ps)) b (map cellOfLine (lines s))
+  inv = subst (λ (z : Builder). Inv (rowsRoom (first vs bs ss ns ms ps)) z (map cellOfLine (lines s))) same (ended .inv)
 
   counts : Numbers n b
   counts = transport (λ j. Numbers (zero-add n j) (same j)) (ended .numbers)
@@ -145,31 +146,31 @@ module _ (s vs bs ss ns ms ps : List ℕ) (e : Enough vs bs ss ns ms) (g : Good 
   unfolding finishColumn
   column-is = rw finishes
 
-  blocks-are : allBlocks (b .state) ≡ blocksIn (map rowOf (lines s))
-  unfolding blocksIn
+  blocks-are : allBlocks (b .state) ≡ blocksUsed (map rowSaid (lines s))
+  unfolding blocksUsed
   blocks-are = all-blocks b n counts
 
-  shows : Shows (finished b .lent) (columnOf b) (map rowOf (lines s))
+  shows : ShowsRows (finished b .lent) (columnOf b) (map rowSaid (lines s))
   shows =
-      let w = shows-finished b (map cellOf (lines s)) inv in
+      let w = shows-finished b (map cellOfLine (lines s)) inv in
       let rs = sym (rows-cells 0 (lines s) (g .lines)) in
       record {
-        rows = rows-listed (map cellOf (lines s)) w ∙ rs;
-        nulls = nulls-listed (map cellOf (lines s)) w ∙ ap nullsIn rs;
-        bytes = bytes-listed (map cellOf (lines s)) w ∙ ap bytesIn rs;
-        long = long-listed (map cellOf (lines s)) w ∙ ap blockBytesIn rs;
+        rows = rows-listed (map cellOfLine (lines s)) w ∙ rs;
+        nulls = nulls-listed (map cellOfLine (lines s)) w ∙ ap nullsIn rs;
+        bytes = bytes-listed (map cellOfLine (lines s)) w ∙ ap validBytes rs;
+        long = long-listed (map cellOfLine (lines s)) w ∙ ap blockBytesIn rs;
         blocks = blocks-are;
       }
 
-  shown : Shows (shelfLent b) (shelfColumn b) (map rowOf (lines s))
-  shown = transport (λ j. Shows (lent-is j) (column-is j) (map rowOf (lines s))) shows
+  shown : ShowsRows (shelfLent b) (shelfColumn b) (map rowSaid (lines s))
+  shown = transport (λ j. ShowsRows (lent-is j) (column-is j) (map rowSaid (lines s))) shows
 
-  pub listed : Listed s vs bs ss ns ms ps
+  pub listed : LinesListed s vs bs ss ns ms ps
   listed =
       record {
         runs = ran;
         filed =
-            transport (λ j. Filed (map cellOf (lines s)) (lent-is j) (column-is j))
+            transport (λ j. Filed (map cellOfLine (lines s)) (lent-is j) (column-is j))
             (done shelfSettings (lent vs bs ss ns ms) ps (map callOf (lines s)) b started ran (rows-after (lines s) (first vs bs ss ns ms ps) []));
         shows = shown;
         answers = answered (shelfLent b) (shelfColumn b) s (g .size) (g .lines) shown;

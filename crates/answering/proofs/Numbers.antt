@@ -25,7 +25,7 @@ use Rattle.column.specs.Lent.{blockRoom, dataRoom}
 use Rattle.column.specs.Truth.{ofKind}
 use Rattle.builder.specs.declared.Merging.the-variants.{Off}
 use Rattle.builder.specs.State.{Builder, rowsRoom, isOpen, allBlocks, used, fitsState, closed, complete, fitsOpen, sized, makeRoom, lay, addRow, addRows}
-use Rattle.builder.specs.Values.{foundBy, found, blockFor, whyLay, whyStore, whyRow, whyValues, store, putFound, putValue, putValues, whyNull, putNull}
+use Rattle.builder.specs.Values.{foundBy, found, blockFor, whyLay, whyStore, whyRows, whyValues, store, putFound, putValue, putValues, whyNull, putNull}
 use Rattle.promise.specs.Calls.{Cell}
 use Rattle.promise.proofs.Fits.{are-fits, data-bytes, sizes-then, sizes-complete, sizes-grow, sizes-lay, grow, room-is}
 use Rattle.promise.proofs.Steps.{Inv}
@@ -92,7 +92,7 @@ module _ {m : ℕ} (b : Builder) (xs : List Cell) (i : Inv m b xs) (h : length x
   why-null = rw (are-fits b (i .fits), lt-leb (rowsRoom b) (b .state .rows) (omega (arith, rows-are b xs i, i .room)))
 
   pub why-value : (n : ℕ) → Numbers n b → (x : List ℕ) → n + length x ≤ 16379 → whyValues 1 b x ≡ Accepted
-  unfolding whyValues whyRow
+  unfolding whyValues whyRows
   why-value n a x r =
       let fits : not (fitsState b) ≡ false = rw (are-fits b (i .fits)) in
       let long : ltb byteLimit (length x) ≡ false = le-ltb byteLimit (length x) (omega (arith, byte-limit-is)) in

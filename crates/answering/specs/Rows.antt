@@ -13,13 +13,13 @@ callFor Code x = add·values 1 x
 callFor Null x = add·null
 callFor Bad x = add·null
 
-abbrev pub cellFor : Line → List ℕ → Cell
-cellFor Code x = cell x true
-cellFor Null x = no·value
-cellFor Bad x = no·value
+abbrev pub lineCell : Line → List ℕ → Cell
+lineCell Code x = cell x true
+lineCell Null x = no·value
+lineCell Bad x = no·value
 
 abbrev pub callOf : List ℕ → Call
 callOf l = callFor (says l) (valueOf l)
 
-abbrev pub cellOf : List ℕ → Cell
-cellOf l = cellFor (says l) (valueOf l)
+abbrev pub cellOfLine : List ℕ → Cell
+cellOfLine l = lineCell (says l) (valueOf l)

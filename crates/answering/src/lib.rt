@@ -1,7 +1,7 @@
 // The program's answer to its input.
 // What is listed at each row is the line that came in: specs/Listed says it, and proofs/Listed proves it of every accepted input.
 ghost use mathlib.Core.Path.{_≡_};
-ghost use Rattle.answering.specs.Begins.{refusal, Begins};
+ghost use Rattle.answering.specs.Begins.{refusal, AnswerBegins};
 use column::Column;
 use column::Kind;
 use whole::Place;
@@ -46,7 +46,7 @@ pub fn begin(
     places: &mut [u32; 1],
     input: &[u8],
 ) -> Begun
-    ensures { λ r. ⌜ Begins (now (input .entry)) (now (views .entry)) (now (bytes .entry)) (now (starts .entry)) (now (lens .entry))
+    ensures { λ r. ⌜ AnswerBegins (now (input .entry)) (now (views .entry)) (now (bytes .entry)) (now (starts .entry)) (now (lens .entry))
         (now (nulls .entry)) (now (places .entry)) (now (views .exit)) (now (bytes .exit)) (now (starts .exit)) (now (lens .exit)) (now (nulls .exit)) r ⌝ }
 {
     if INPUT < input.len() {

@@ -27,7 +27,7 @@ use Rattle.column.specs.declared.Block.{Block}
 use Rattle.column.specs.declared.Column.{Column}
 use Rattle.column.specs.Lent.{Lent, buffers, block, lent, fits, inData, allInData, blockAt, blockRoom, dataRoom}
 use Rattle.column.specs.Room.{bare, Listed}
-use Rattle.column.specs.Meaning.{rowView, bytesOf, validAt}
+use Rattle.column.specs.Meaning.{rowView, bytesOf, rowValid}
 use Rattle.column.specs.Truth.{trueAt, lowest}
 use Rattle.column.specs.FitLaws.{Fitting, table-at, block-in-data, in-data-gives, all-bare, and-left, and-right}
 use Rattle.column.specs.FitLaws as fit-laws
@@ -64,9 +64,9 @@ abbrev pub rowsOn : ℕ → ℕ → Lent → Column → Builder → Builder
 rowsOn n before l c b =
     let s = b .state in
     let m = b .lent in
-    builder (moved s (s .growth) (s .rows + n) (s .blocks) (s .base) (s .fill) (s .cap) (nulledBy (validAt l c) n (s .nulled)))
+    builder (moved s (s .growth) (s .rows + n) (s .blocks) (s .base) (s .fill) (s .cap) (nulledBy (rowValid l c) n (s .nulled)))
     (buffers (putFrom (λ k. renumbered before (rowView l c k)) n (m .views) (s .rows)) (m .bytes) (m .table) (putBits (m .nulls) (s .rows)
-    (validAt l c) n)) (b .places)
+    (rowValid l c) n)) (b .places)
 
 pub add-column : (n before : ℕ) (l : Lent) (c : Column) (b : Builder) → addColumn n before l c b ≡ rowsOn n before l c b
 unfolding addColumn addRow putFrom putBits nulledBy
@@ -404,7 +404,7 @@ module _ (s : State) (vs bs ss ns ms ps cv cb cs cl cn : List ℕ) (c : Column) 
       → some ≡ pick (eqb (bits.countNulls cn (c .mapped) (c .first) (c .rows)) 0) (s .nulled) true
       → u ≡ columnMore (c .rows) (c .blocks) end some t
       → Does (whyColumn from c) (putColumn from c) s vs bs ss ns ms ps (answer Accepted u) vs′ bs′ ss′ ns′ ms′ ps
-  unfolding putColumn complete closed recorded validAt
+  unfolding putColumn complete closed recorded rowValid
   does-column w t {u} {some} {end} {ss₁} {ns₁} e h et e1 e2 ee eb es en ev em en′ eu =
       let j = taken (ap isAccepted (sym e) ∙ h) in
       let f = blockBytes from in

@@ -1,14 +1,22 @@
 -- What the batches answer: rows below the next one, and values tasted. Assumes nothing.
+use mathlib.Core.Bool.{Bool, true, false}
 use mathlib.Core.List.{List}
 use Prim.Native.Nat.{ℕ, zero, suc, _+_, _-_, _%_, _^_}
 use lib.Dec.{eqb}
 use lib.ListN.{length, getD}
 use Rattle.basis.specs.Pick.{pick}
+use Rattle.order.specs.declared.Order.{Order}
+use Rattle.order.specs.declared.Order.the-variants.{Less, Equal, Greater}
 use Rattle.column.specs.declared.Column.{Column}
 use Rattle.column.specs.Lent.{Lent, fits}
 use Rattle.reading.specs.Reading.{valueAt}
 use Rattle.comparison.specs.Compare.{compareRows}
 use Rattle.exports.specs.Exported.{comparedNumber}
+
+abbrev pub isLess : Order → Bool
+isLess Less = true
+isLess Equal = false
+isLess Greater = false
 
 -- how many of the first n rows are below the one after them
 unfoldable pub lessRows : Lent → Column → ℕ → ℕ

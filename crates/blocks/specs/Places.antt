@@ -27,13 +27,13 @@ pub record Answers (views bytes : List ℕ) (table : List Block) (c : Column) (p
   pub right : (nulls : List ℕ) → viewSize * (c .first + c .rows) ≤ length views → k < places → r ≡ holdsAt (buffers views bytes table nulls) c k
 
 -- all places before k hold, and k is past them all or doesn't; of a column whose rows are in the views
-pub record Found (views bytes : List ℕ) (table : List Block) (c : Column) (places k : ℕ) : Type 0 where
+pub record PlaceFound (views bytes : List ℕ) (table : List Block) (c : Column) (places k : ℕ) : Type 0 where
   pub most : k ≤ places
   pub passed : (nulls : List ℕ) → viewSize * (c .first + c .rows) ≤ length views → (j : ℕ) → j < k → holdsAt (buffers views bytes table nulls) c j ≡ true
   pub stops : (nulls : List ℕ) → viewSize * (c .first + c .rows) ≤ length views → k < places → holdsAt (buffers views bytes table nulls) c k ≡ false
 
 -- a column that fits has as many places as rows and blocks
-pub record Counted (views nulls : List ℕ) (c : Column) (count places : ℕ) : Type 0 where
+pub record PlacesCounted (views nulls : List ℕ) (c : Column) (count places : ℕ) : Type 0 where
   pub room : 0 < places → viewSize * (c .first + c .rows) ≤ length views
   pub all : (bytes : List ℕ) (table : List Block) → count ≡ length table → fits (buffers views bytes table nulls) c ≡ true → places ≡ c .rows + c .blocks
 

@@ -22,10 +22,10 @@ use Rattle.column.specs.LowestLaws.{lowest-none, lowest-bad}
 use Rattle.column.specs.Spot.{Names}
 use Rattle.column.specs.Truth.{isTrue, trueAt}
 use Rattle.validity.specs.Check.{whyInvalid}
-use Rattle.blocks.specs.Places.{holdsAt, Asks, Answers, Counted, Found, Stopped}
+use Rattle.blocks.specs.Places.{holdsAt, Asks, Answers, PlacesCounted, PlaceFound, Stopped}
 
-pub never : {A : Type 0} → false ≡ true → A
-never h = absurd (true≢false (sym h))
+pub never-by : {A : Type 0} → false ≡ true → A
+never-by h = absurd (true≢false (sym h))
 
 module _ (l : Lent) (c : Column) where
   pub holds-row : (k : ℕ) → k < c .rows → holdsAt l c k ≡ trueAt (c .kind) l c k
@@ -90,10 +90,10 @@ module _ (l : Lent) (c : Column) where
 module _ (views bytes : List ℕ) (table : List Block) (c : Column) (places k p : ℕ) (b : Block) (asks : Asks views c k p) (e : b
     ≡ getD table p (block 0 0)) (r : Bool) where
   pub past-places : places ≤ k → r ≡ false → Answers views bytes table c places k r
-  past-places h f = record { below = λ t. never (sym f ∙ t); right = λ nulls room g. absurd (omega arith) }
+  past-places h f = record { below = λ t. never-by (sym f ∙ t); right = λ nulls room g. absurd (omega arith) }
 
   pub no-view : k < c .rows → length views < viewSize * (c .first + c .rows) → r ≡ false → Answers views bytes table c places k r
-  no-view h g f = record { below = λ t. never (sym f ∙ t); right = λ nulls room i. absurd (omega arith) }
+  no-view h g f = record { below = λ t. never-by (sym f ∙ t); right = λ nulls room i. absurd (omega arith) }
 
   pub block-answer : k < places → c .rows ≤ k → r ≡ inData (buffers [] bytes [] []) (block (b .start) (b .len)) → Answers views bytes table c places k r
   unfolding inData dataRoom
@@ -131,11 +131,11 @@ module _ (views bytes : List ℕ) (table : List Block) (c : Column) (places : �
         let h = a .below t in
         (h, λ nulls room j g. by-cases (ℕ-discrete j k) (λ e. rw e (sym (a .right nulls room h) ∙ t)) (λ d. before .1 nulls room j (omega arith)))
 
-    pub found : r ≡ false → Found views bytes table c places k
+    pub found : r ≡ false → PlaceFound views bytes table c places k
     found f = record { most = before .0; passed = before .1; stops = λ nulls room h. sym (a .right nulls room h) ∙ f }
 
-pub stopped : (views bytes nulls : List ℕ) (table : List Block) (c : Column) (count places k : ℕ) → Counted views nulls c count places
-    → count ≡ length table → Found views bytes table c places k
+pub stopped : (views bytes nulls : List ℕ) (table : List Block) (c : Column) (count places k : ℕ) → PlacesCounted views nulls c count places
+    → count ≡ length table → PlaceFound views bytes table c places k
     → fits (buffers views bytes table nulls) c ≡ true → Stopped (buffers views bytes table nulls) c k
 stopped views bytes nulls table c count places k counted is f fit =
     let all = counted .all bytes table is fit in

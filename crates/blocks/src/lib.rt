@@ -17,7 +17,7 @@ ghost use Rattle.comparison.specs.Compare.{compareRows};
 ghost use Rattle.reading.specs.Walk.{cursor, walkValue, walkStep};
 ghost use Rattle.blocks.specs.Walk.{heldBy, placeAfter};
 ghost use Rattle.validity.specs.Check.{whyInvalid};
-ghost use Rattle.blocks.specs.Places.{Asks, Answers, Counted, Found, Stopped};
+ghost use Rattle.blocks.specs.Places.{Asks, Answers, PlacesCounted, PlaceFound, Stopped};
 use bounds::Refusal;
 use bounds::Why;
 use column::Block;
@@ -246,7 +246,7 @@ fn judge<'a>(views: &'a [u8], bytes: &'a [u8], c: Column, places: usize, k: usiz
 
 // How many places the check asks: a column's rows and blocks, and none where the column doesn't fit.
 fn places_with<'a>(views: &'a [u8], nulls: &'a [u8], c: Column, count: usize) -> usize
-    ensures { λ n. ⌜ Counted (now (views .entry)) (now (nulls .entry)) c count n ⌝ }
+    ensures { λ n. ⌜ PlacesCounted (now (views .entry)) (now (nulls .entry)) c count n ⌝ }
 {
     if !column::fits_with(views, nulls, c, count) {
         return 0;
@@ -304,7 +304,7 @@ pub fn stop_at<'a>(
     c: Column,
     places: usize,
 ) -> usize
-    ensures { λ k. ⌜ Found (now (views .entry)) (now (bytes .entry)) (now (table .entry)) c places k ⌝ }
+    ensures { λ k. ⌜ PlaceFound (now (views .entry)) (now (bytes .entry)) (now (table .entry)) c places k ⌝ }
 {
     let mut k = 0;
     while holds(views, bytes, table, c, places, k) {

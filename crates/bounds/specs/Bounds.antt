@@ -48,7 +48,3 @@ block-limit-small = lit< tt
 pub byte-limit-small : byteLimit < 4294967296
 unfolding byteLimit
 byte-limit-small = lit< tt
-
-pub most-compaction-small : mostCompaction < 4294967296
-unfolding mostCompaction
-most-compaction-small = lit< tt

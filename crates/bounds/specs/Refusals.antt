@@ -23,20 +23,20 @@ numberOf BlockNumber = 12
 numberOf Offsets = 13
 
 -- counted from the column's first row; 0 where the refusal names none
-abbrev pub rowOf : Refusal → ℕ
-rowOf Setting = 0
-rowOf Fit = 0
-rowOf Row = 0
-rowOf TooLong = 0
-rowOf RowRoom = 0
-rowOf BlockRoom = 0
-rowOf DataRoom = 0
-rowOf NoBlock = 0
-rowOf Range = 0
-rowOf NotUtf8 = 0
-rowOf (BadView r) = r
-rowOf BlockNumber = 0
-rowOf Offsets = 0
+abbrev pub rowNamed : Refusal → ℕ
+rowNamed Setting = 0
+rowNamed Fit = 0
+rowNamed Row = 0
+rowNamed TooLong = 0
+rowNamed RowRoom = 0
+rowNamed BlockRoom = 0
+rowNamed DataRoom = 0
+rowNamed NoBlock = 0
+rowNamed Range = 0
+rowNamed NotUtf8 = 0
+rowNamed (BadView r) = r
+rowNamed BlockNumber = 0
+rowNamed Offsets = 0
 
 -- 0 where the call is accepted
 abbrev pub whyNumber : Why → ℕ

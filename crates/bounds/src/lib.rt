@@ -1,6 +1,6 @@
 // The bounds of every column and state, each under its one name, and why a call refuses.
 ghost use mathlib.Core.Path.{_≡_};
-ghost use Rattle.bounds.specs.Refusals.{numberOf, rowOf, whyNumber, isAccepted};
+ghost use Rattle.bounds.specs.Refusals.{numberOf, rowNamed, whyNumber, isAccepted};
 
 // Rows, counted from row 0 of the views.
 pub const ROW_LIMIT: usize = 32767;
@@ -60,7 +60,7 @@ pub fn number(r: Refusal) -> u8
 
 // The row that the refusal names, 0 where it names none.
 pub fn row(r: Refusal) -> usize
-    ensures { λ n. ⌜ n ≡ rowOf r ⌝ }
+    ensures { λ n. ⌜ n ≡ rowNamed r ⌝ }
 {
     match r {
         Refusal::Setting => 0,

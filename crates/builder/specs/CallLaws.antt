@@ -86,6 +86,17 @@ module _ (s : State) (vs bs ss ns ms ps x : List ℕ) where
           (le ∙ room-lens s vs bs ss ns ms hs hn (fitsOpen s (length x)))
           nu pl
 
+-- ---- once
+
+module _ (s : State) (vs bs ss ns ms ps x : List ℕ) (on : whyValues 1 (held s vs bs ss ns ms ps) x ≡ whyStore (held s vs bs ss ns ms ps) x) where
+  pub does-once : {r : Answer} {vs′ bs′ ss′ ns′ ms′ ps′ : List ℕ}
+      → Does (λ b. whyStore b x) (putValue x) s vs bs ss ns ms ps r vs′ bs′ ss′ ns′ ms′ ps′
+      → Does (λ b. whyValues 1 b x) (putValues 1 x) s vs bs ss ns ms ps r vs′ bs′ ss′ ns′ ms′ ps′
+  unfolding putValues addRows
+  does-once d =
+      does-left (λ b. whyStore b x) (λ b. whyValues 1 b x) (putValue x) (putValues 1 x) s vs bs ss ns ms ps (sym on)
+      (ap (λ (w : Why). ifAccepted w (putValue x (held s vs bs ss ns ms ps)) (held s vs bs ss ns ms ps)) (sym on)) d
+
 -- ---- n times
 
 pub put-rows : (x : List ℕ) (b : Builder) → putValue x b .state .rows ≡ b .state .rows + 1

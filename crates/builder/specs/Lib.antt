@@ -13,3 +13,4 @@ pub mod SearchLaws
 pub mod PutLaws
 pub mod TimesLaws
 pub mod CallLaws
+pub mod KeptLaws

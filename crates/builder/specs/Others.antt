@@ -15,7 +15,7 @@ use Rattle.bounds.specs.declared.Why.the-variants.{Accepted}
 use Rattle.views.specs.View.{lengthOf, blockOf, isShort, makeView}
 use Rattle.column.specs.declared.Column.{Column}
 use Rattle.column.specs.Lent.{Lent, buffers, block, blockAt, inData, allInData, fits, blockRoom, dataRoom}
-use Rattle.column.specs.Meaning.{bytesOf, blocksOf, part, rowView, validAt}
+use Rattle.column.specs.Meaning.{bytesOf, blocksOf, part, rowView, rowValid}
 use Rattle.column.specs.Truth.{ofKind, trueAt, lowest}
 use Rattle.builder.specs.declared.State.{State}
 use Rattle.builder.specs.State.{Builder, builder, moved, rowsRoom, allBlocks, used, fitsState, complete, addRow}
@@ -72,7 +72,7 @@ renumbered n v = pick (isShort (lengthOf v)) v (take 8 v ++ (enc 4 (blockOf v + 
 -- the first n rows of a column, each after the other
 unfoldable pub addColumn : ℕ → ℕ → Lent → Column → Builder → Builder
 addColumn zero before l c b = b
-addColumn (suc n) before l c b = addRow (renumbered before (rowView l c n)) (validAt l c n) (addColumn n before l c b)
+addColumn (suc n) before l c b = addRow (renumbered before (rowView l c n)) (rowValid l c n) (addColumn n before l c b)
 
 -- the bytes of a column's block, and the bytes of its first n blocks together
 abbrev pub blockBytes : Lent → ℕ → List ℕ

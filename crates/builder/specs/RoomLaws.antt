@@ -23,7 +23,7 @@ use Rattle.column.specs.FitLaws.{length-table, and-left, and-right, and-no}
 use Rattle.builder.specs.declared.State.{State}
 use Rattle.builder.specs.State.{Builder, held, rowsRoom, isOpen, allBlocks, used, fitsRooms, fitsState}
 use Rattle.builder.specs.Rooms.{roomOfRows, roomOfBlocks, roomOfBytes, Ready}
-use Rattle.builder.specs.Values.{whyRow, whyStore, whyValues, whyNull}
+use Rattle.builder.specs.Values.{whyRows, whyStore, whyValues, whyNull}
 
 -- ---- the blocks, the open one included
 
@@ -65,6 +65,10 @@ module _ (s : State) (rows blocks bytes : ℕ) where
 
 -- ---- the rooms of what is lent
 
+pub blocks-most : (ss ns : ℕ) → roomOfBlocks ss ns ≤ blockLimit
+unfolding roomOfBlocks
+blocks-most ss ns = omega arith
+
 module _ (s : State) (vs bs ss ns ms ps : List ℕ) where
   pub rows-room-is : roomOfRows (s .merging) (length vs) (length ms) (length ps) ≡ rowsRoom (held s vs bs ss ns ms ps)
   unfolding roomOfRows rowsRoom rowRoom
@@ -90,9 +94,9 @@ module _ (s : State) (vs bs ss ns ms ps : List ℕ) where
     unfolding whyNull
     null-is = rw (fits-is, er ∙ rows-room-is)
 
-    pub first-is : (x : List ℕ) (n : ℕ) → refuse Fit (not (fitsRooms s rows blocks bytes)) (pick (eqb n 0) Accepted (whyRow (s .kind) x (s .rows) n
+    pub first-is : (x : List ℕ) (n : ℕ) → refuse Fit (not (fitsRooms s rows blocks bytes)) (pick (eqb n 0) Accepted (whyRows (s .kind) x (s .rows) n
         rows Accepted))
-        ≡ refuse Fit (not (fitsState (held s vs bs ss ns ms ps))) (pick (eqb n 0) Accepted (whyRow (s .kind) x (s .rows) n
+        ≡ refuse Fit (not (fitsState (held s vs bs ss ns ms ps))) (pick (eqb n 0) Accepted (whyRows (s .kind) x (s .rows) n
         (rowsRoom (held s vs bs ss ns ms ps)) Accepted))
     first-is x n = rw (fits-is, er ∙ rows-room-is)
 
@@ -165,20 +169,20 @@ is-accepted w v e h = accepted-is v (rw e at h)
 -- ---- a value's first tests: those before it is looked for
 
 module _ (kind : Kind) (x : List ℕ) (rows more room : ℕ) where
-  pub row-long : (w : Why) → byteLimit < length x → Refused TooLong ≡ whyRow kind x rows more room w
-  unfolding whyRow refuse
+  pub row-long : (w : Why) → byteLimit < length x → Refused TooLong ≡ whyRows kind x rows more room w
+  unfolding whyRows refuse
   row-long w h = rw (lt-ltb byteLimit (length x) h)
 
-  pub row-kind : (w : Why) → length x ≤ byteLimit → ofKind kind x ≡ false → Refused NotUtf8 ≡ whyRow kind x rows more room w
-  unfolding whyRow refuse
+  pub row-kind : (w : Why) → length x ≤ byteLimit → ofKind kind x ≡ false → Refused NotUtf8 ≡ whyRows kind x rows more room w
+  unfolding whyRows refuse
   row-kind w h k = rw (le-ltb byteLimit (length x) h, k)
 
-  pub row-over : (w : Why) → length x ≤ byteLimit → ofKind kind x ≡ true → room < rows + more → Refused RowRoom ≡ whyRow kind x rows more room w
-  unfolding whyRow refuse
+  pub row-over : (w : Why) → length x ≤ byteLimit → ofKind kind x ≡ true → room < rows + more → Refused RowRoom ≡ whyRows kind x rows more room w
+  unfolding whyRows refuse
   row-over w h k r = rw (le-ltb byteLimit (length x) h, k, lt-ltb room (rows + more) r)
 
-  pub row-on : (w : Why) → length x ≤ byteLimit → ofKind kind x ≡ true → rows + more ≤ room → w ≡ whyRow kind x rows more room w
-  unfolding whyRow refuse
+  pub row-on : (w : Why) → length x ≤ byteLimit → ofKind kind x ≡ true → rows + more ≤ room → w ≡ whyRows kind x rows more room w
+  unfolding whyRows refuse
   row-on w h k r = rw (le-ltb byteLimit (length x) h, k, le-ltb room (rows + more) r)
 
 -- a test passes the later ones on
@@ -204,20 +208,20 @@ module _ (b : Builder) (x : List ℕ) where
 
   module _ (n : ℕ) where
     abbrev pub rowsOf : Why → Why
-    rowsOf w = whyRow (b .state .kind) x (b .state .rows) n (rowsRoom b) w
+    rowsOf w = whyRows (b .state .kind) x (b .state .rows) n (rowsRoom b) w
 
     abbrev pub firstOf : Why
     firstOf = refuse Fit (not (fitsState b)) (pick (eqb n 0) Accepted (rowsOf Accepted))
 
     row-no : isAccepted (rowsOf Accepted) ≡ false → rowsOf Accepted ≡ rowsOf (whyStore b x)
-    unfolding whyRow
+    unfolding whyRows
     row-no h =
         refuse-same TooLong (ltb byteLimit (length x)) _ _
         (refuse-same NotUtf8 (not (ofKind (b .state .kind) x)) _ _
         (refuse-same RowRoom (ltb (rowsRoom b) (b .state .rows + n)) Accepted (whyStore b x) (never (whyStore b x)))) h
 
     row-yes : isAccepted (rowsOf Accepted) ≡ true → rowsOf (whyStore b x) ≡ whyStore b x
-    unfolding whyRow
+    unfolding whyRows
     row-yes h =
         refuse-on TooLong (ltb byteLimit (length x)) _ _ (whyStore b x)
         (refuse-on NotUtf8 (not (ofKind (b .state .kind) x)) _ _ (whyStore b x)
@@ -240,7 +244,7 @@ module _ (b : Builder) (x : List ℕ) where
     value-on h e = refuse-on Fit (not (fitsState b)) _ _ (whyStore b x) (λ z. rw (ne-eqb n 0 e) (row-yes (rw (ne-eqb n 0 e) at z))) h
 
     pub judged : isAccepted firstOf ≡ true → (n ≡ 0 → ⊥) → Judged × (b .state .rows + n ≤ rowsRoom b)
-    unfolding whyRow
+    unfolding whyRows
     judged a e =
         let f = accepted-both Fit (not (fitsState b)) _ a in
         let g : isAccepted (rowsOf Accepted) ≡ true = rw (ne-eqb n 0 e) at (f .1) in

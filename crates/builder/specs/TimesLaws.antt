@@ -6,11 +6,11 @@ use Prim.Native.Nat.{ℕ, zero, suc, _+_, _*_, _≤_, _<_}
 use native.Mathlib.Nat.{add-zero, add-suc}
 use native.Mathlib.Numerals.{add-one}
 use native.Mathlib.Omega.{arith}
-use lib.ListN.{length}
-use lib.Seq.{paste, length-paste}
+use lib.ListN.{length, take, drop}
+use lib.Seq.{paste, length-paste, take-take}
 use Rattle.null_bits.specs.Runs.{putBits, putRun}
 use Rattle.views.specs.View.{viewSize, viewAt}
-use Rattle.views.specs.ViewLaws.{view-before}
+use Rattle.views.specs.ViewLaws.{length-view, view-before}
 use Rattle.column.specs.Lent.{buffers}
 use Rattle.builder.specs.declared.State.{State}
 use Rattle.builder.specs.State.{Builder, builder, moved, addRow, addRows}
@@ -50,3 +50,16 @@ module _ (vs v : List ℕ) (r : ℕ) (e : length v ≡ viewSize) where
   pub copies-more : (k : ℕ) → paste (putCopies vs r v k) (16 * (r + k)) v 16 ≡ putCopies vs r v (k + 1)
   unfolding putCopies
   copies-more k = rw (add-one k)
+
+pub copies-none : (vs : List ℕ) (r : ℕ) (v : List ℕ) → vs ≡ putCopies vs r v 0
+unfolding putCopies
+copies-none vs r v = refl
+
+-- one copy more, by the bytes of the row that is copied
+pub copies-next : (vs ws : List ℕ) (from to k : ℕ) → 16 * from + 16 ≤ length vs → ws ≡ putCopies vs to (viewAt vs from) k
+    → paste ws (16 * (to + k)) (drop (16 * from) vs) 16 ≡ putCopies vs to (viewAt vs from) (k + 1)
+unfolding viewAt
+copies-next vs ws from to k h e =
+    let same : paste ws (16 * (to + k)) (drop (16 * from) vs) 16 ≡ paste ws (16 * (to + k)) (take 16 (drop (16 * from) vs)) 16 =
+    rw (take-take 16 16 (drop (16 * from) vs) (omega arith)) in
+    same ∙ rw e (copies-more vs (take 16 (drop (16 * from) vs)) to (length-view vs from h) k)

@@ -60,15 +60,15 @@ whyStore b x =
     (pick (isRow (found b x)) Accepted (whyLay (b .state) (blockRoom (b .lent)) (dataRoom (b .lent)) (length x)))
 
 -- 4, 10 and 5: x, of a kind, as `more` rows after `rows` in a room for so many
-unfoldable pub whyRow : Kind → List ℕ → ℕ → ℕ → ℕ → Why → Why
-whyRow kind x rows more room w =
+unfoldable pub whyRows : Kind → List ℕ → ℕ → ℕ → ℕ → Why → Why
+whyRows kind x rows more room w =
     refuse TooLong (ltb byteLimit (length x)) (refuse NotUtf8 (not (ofKind kind x)) (refuse RowRoom (ltb room (rows + more)) w))
 
 -- a value n times; none is accepted whatever the value
 unfoldable pub whyValues : ℕ → Builder → List ℕ → Why
 whyValues n b x =
     refuse Fit (not (fitsState b))
-    (pick (eqb n 0) Accepted (whyRow (b .state .kind) x (b .state .rows) n (rowsRoom b) (whyStore b x)))
+    (pick (eqb n 0) Accepted (whyRows (b .state .kind) x (b .state .rows) n (rowsRoom b) (whyStore b x)))
 
 -- the row that comes next entered at the place that was found for it, if any
 abbrev pub enter : Found → Builder → Builder

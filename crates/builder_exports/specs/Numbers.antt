@@ -1,21 +1,15 @@
--- A builder's state, its settings and its columns as the numbers that C and Rust see, and what an exported call says of them. Assumes nothing.
+-- A builder's state and its settings as the numbers that C and Rust see, and what an exported call says of them. Assumes nothing.
 use mathlib.Core.Path.{_≡_}
 use mathlib.Core.Bool.{Bool, true, false, not}
 use mathlib.Core.List.{List, [], _∷_}
 use Prim.Native.Nat.{ℕ}
 use lib.Dec.{eqb}
 use lib.ListN.{getD}
-use Rattle.basis.specs.Pick.{pick}
-use Rattle.bounds.specs.Refusals.{numberOf, rowOf, whyNumber, ifAccepted}
+use Rattle.bounds.specs.Refusals.{numberOf, whyNumber, ifAccepted}
 use Rattle.bounds.specs.declared.Why.{Why}
 use Rattle.bounds.specs.declared.Why.the-variants.{Accepted, Refused}
 use Rattle.growth.specs.declared.Growth.{Growth}
 use Rattle.growth.specs.declared.Growth.the-variants.{Fixed, Doubling}
-use Rattle.column.specs.declared.Kind.{Kind}
-use Rattle.column.specs.declared.Kind.the-variants.{Binary, Text}
-use Rattle.column.specs.declared.Column.{Column}
-use Rattle.column.specs.declared.Spot.{Spot}
-use Rattle.column.specs.declared.Spot.the-variants as spot
 use Rattle.column.specs.Room.{bare}
 use Rattle.builder.specs.declared.Merging.{Merging}
 use Rattle.builder.specs.declared.Merging.the-variants.{Off, On, UpTo}
@@ -27,14 +21,10 @@ use Rattle.builder.specs.State.{Builder, held}
 use Rattle.builder.specs.Get.{whyGet}
 use Rattle.builder.specs.Does.{left, startsOf, lensOf}
 use Rattle.finishing.specs.Places.{spotRow}
-use Rattle.builder_exports.specs.declared.Told.{Told}
-use Rattle.builder_exports.specs.declared.Place.{Place}
+use Rattle.numbers.specs.declared.Place.{Place}
+use Rattle.numbers.specs.Numbers.{kindFrom, kindNumber, flag, place, placeOf}
 
 -- ---- numbers in: 0 is the first of two, anything else the second
-
-abbrev pub kindBy : Bool → Kind
-kindBy true = Binary
-kindBy false = Text
 
 abbrev pub growthBy : Bool → ℕ → Growth
 growthBy true n = Fixed n
@@ -50,11 +40,8 @@ mergingBy true one most = Off
 mergingBy false true most = On
 mergingBy false false most = UpTo most
 
-unfoldable pub kindOf : ℕ → Kind
-kindOf k = kindBy (eqb k 0)
-
-unfoldable pub growthOf : ℕ → ℕ → Growth
-growthOf g n = growthBy (eqb g 0) n
+unfoldable pub growthFrom : ℕ → ℕ → Growth
+growthFrom g n = growthBy (eqb g 0) n
 
 unfoldable pub sizesOf : ℕ → ℕ → Sizes
 sizesOf g n = sizesBy (eqb g 0) n
@@ -66,8 +53,8 @@ mergingOf m most = mergingBy (eqb m 0) (eqb m 1) most
 unfoldable pub stateOf : List ℕ → State
 stateOf l =
     record {
-      kind = kindOf (getD l 0 0);
-      growth = growthOf (getD l 1 0) (getD l 2 0);
+      kind = kindFrom (getD l 0 0);
+      growth = growthFrom (getD l 1 0) (getD l 2 0);
       merging = mergingOf (getD l 3 0) (getD l 4 0);
       rows = getD l 5 0;
       blocks = getD l 6 0;
@@ -79,17 +66,9 @@ stateOf l =
 
 -- kind, growth and its fixed size, merging and its maximum
 unfoldable pub settingsOf : List ℕ → Settings
-settingsOf l = record { kind = kindOf (getD l 0 0); sizes = sizesOf (getD l 1 0) (getD l 2 0); merging = mergingOf (getD l 3 0) (getD l 4 0) }
-
--- first row, rows, blocks, kind, whether it has a map
-unfoldable pub columnFrom : List ℕ → Column
-columnFrom l = record { first = getD l 0 0; rows = getD l 1 0; blocks = getD l 2 0; kind = kindOf (getD l 3 0); mapped = not (eqb (getD l 4 0) 0) }
+settingsOf l = record { kind = kindFrom (getD l 0 0); sizes = sizesOf (getD l 1 0) (getD l 2 0); merging = mergingOf (getD l 3 0) (getD l 4 0) }
 
 -- ---- numbers out
-
-abbrev pub kindNumber : Kind → ℕ
-kindNumber Binary = 0
-kindNumber Text = 1
 
 abbrev pub growthNumber : Growth → ℕ
 growthNumber (Fixed n) = 0
@@ -109,30 +88,10 @@ mergingMost Off = 0
 mergingMost On = 0
 mergingMost (UpTo n) = n
 
-abbrev pub flag : Bool → ℕ
-flag b = pick b 1 0
-
 unfoldable pub numbersOf : State → List ℕ
 numbersOf s =
     kindNumber (s .kind) ∷ growthNumber (s .growth) ∷ growthSize (s .growth) ∷ mergingNumber (s .merging) ∷ mergingMost (s .merging)
     ∷ s .rows ∷ s .blocks ∷ s .base ∷ s .fill ∷ s .cap ∷ flag (s .nulled) ∷ []
-
-unfoldable pub columnNumbers : Column → List ℕ
-columnNumbers c = c .first ∷ c .rows ∷ c .blocks ∷ kindNumber (c .kind) ∷ flag (c .mapped) ∷ []
-
-abbrev pub told : Why → Told
-told Accepted = record { number = 0; row = 0 }
-told (Refused r) = record { number = numberOf r; row = rowOf r }
-
-abbrev pub place : ℕ → ℕ → ℕ → ℕ → Place
-place refused buffer offset len = record { refused = refused; buffer = buffer; offset = offset; len = len }
-
--- in the views (buffer 0), or in the data (1)
-abbrev pub placeOf : Spot → Place
-placeOf (spot.View o n) = place 0 0 o n
-placeOf (spot.Data o n) = place 0 1 o n
-placeOf spot.NoBlock = place 0 0 0 0
-placeOf spot.Outside = place 0 0 0 0
 
 abbrev pub placeWhen : Why → Place → Place
 placeWhen Accepted p = p

@@ -8,54 +8,23 @@ ghost use Rattle.builder.specs.Start.{whyStart, started, startPlaces};
 ghost use Rattle.builder.specs.Values.{whyValues, putValues, whyNull, putNull};
 ghost use Rattle.builder.specs.Others.{whyBlock, putBlock, blockNumber, whyView, putView, whyColumn, putColumn};
 ghost use Rattle.builder.specs.Finish.{whyFinish, copied, finished};
-ghost use Rattle.builder_exports.specs.Numbers.{kindOf, growthOf, sizesOf, mergingOf, stateOf, settingsOf, columnFrom};
-ghost use Rattle.builder_exports.specs.Numbers.{kindNumber, growthNumber, growthSize, mergingNumber, mergingMost, flag, numbersOf, columnNumbers};
-ghost use Rattle.builder_exports.specs.Numbers.{told, placeOf, placeGot, Exported};
+ghost use Rattle.numbers.specs.Numbers.{columnFrom, columnNumbers, whyTold};
+ghost use Rattle.builder_exports.specs.Numbers.{growthFrom, sizesOf, mergingOf, stateOf, settingsOf};
+ghost use Rattle.builder_exports.specs.Numbers.{growthNumber, growthSize, mergingNumber, mergingMost, numbersOf};
+ghost use Rattle.builder_exports.specs.Numbers.{placeGot, Exported};
 use bounds::Why;
 use builder::Answer;
 use builder::Merging;
 use builder::Settings;
 use builder::Sizes;
 use builder::State;
-use column::Column;
-use column::Kind;
-use column::Spot;
 use growth::Growth;
-
-// A verdict: 0 or the refusal's number, and the row that refusal 11 names.
-#[repr(C)]
-pub struct Told {
-    pub number: u64,
-    pub row: usize,
-}
-
-// A number: 0 or the refusal's number, and what was asked for.
-#[repr(C)]
-pub struct Counted {
-    pub refused: u64,
-    pub number: usize,
-}
-
-// A part of a buffer: 0 or the refusal's number, which buffer (0 the views, 1 the data), from where, how many bytes.
-#[repr(C)]
-pub struct Place {
-    pub refused: u64,
-    pub buffer: u64,
-    pub offset: usize,
-    pub len: usize,
-}
-
-fn kind_of(k: usize) -> Kind
-    ensures { λ r. ⌜ r ≡ kindOf k ⌝ }
-{
-    if k == 0 {
-        return Kind::Binary;
-    }
-    Kind::Text
-}
+use numbers::Counted;
+use numbers::Place;
+use numbers::Told;
 
 fn growth_of(g: usize, n: usize) -> Growth
-    ensures { λ r. ⌜ r ≡ growthOf g n ⌝ }
+    ensures { λ r. ⌜ r ≡ growthFrom g n ⌝ }
 {
     if g == 0 {
         return Growth::Fixed(n);
@@ -85,11 +54,11 @@ fn merging_of(m: usize, most: usize) -> Merging
 }
 
 // A state by its eleven numbers.
-fn state_of(l: &[usize; 11]) -> State
+pub fn state_of(l: &[usize; 11]) -> State
     ensures { λ r. ⌜ r ≡ stateOf (now (l .entry)) ⌝ }
 {
     State {
-        kind: kind_of(l[0]),
+        kind: numbers::kind_of(l[0]),
         growth: growth_of(l[1], l[2]),
         merging: merging_of(l[3], l[4]),
         rows: l[5],
@@ -105,31 +74,9 @@ fn settings_of(l: &[usize; 5]) -> Settings
     ensures { λ r. ⌜ r ≡ settingsOf (now (l .entry)) ⌝ }
 {
     Settings {
-        kind: kind_of(l[0]),
+        kind: numbers::kind_of(l[0]),
         sizes: sizes_of(l[1], l[2]),
         merging: merging_of(l[3], l[4]),
-    }
-}
-
-// A column by its five numbers.
-fn column_of(l: &[usize; 5]) -> Column
-    ensures { λ r. ⌜ r ≡ columnFrom (now (l .entry)) ⌝ }
-{
-    Column {
-        first: l[0],
-        rows: l[1],
-        blocks: l[2],
-        kind: kind_of(l[3]),
-        mapped: l[4] != 0,
-    }
-}
-
-fn kind_number(k: Kind) -> usize
-    ensures { λ r. ⌜ r ≡ kindNumber k ⌝ }
-{
-    match k {
-        Kind::Binary => 0,
-        Kind::Text => 1,
     }
 }
 
@@ -171,15 +118,6 @@ fn merging_most(m: Merging) -> usize
     }
 }
 
-fn flag_number(b: bool) -> usize
-    ensures { λ r. ⌜ r ≡ flag b ⌝ }
-{
-    if b {
-        return 1;
-    }
-    0
-}
-
 // A state as numbers.
 fn numbers_of(s: State) -> [usize; 11]
     ensures { λ r. ⌜ r ≡ numbersOf s ⌝ }
@@ -188,7 +126,7 @@ fn numbers_of(s: State) -> [usize; 11]
     let growth = s.growth;
     let merging = s.merging;
     [
-        kind_number(kind),
+        numbers::kind_number(kind),
         growth_number(growth),
         growth_size(growth),
         merging_number(merging),
@@ -198,33 +136,8 @@ fn numbers_of(s: State) -> [usize; 11]
         s.base,
         s.fill,
         s.cap,
-        flag_number(s.nulled),
+        numbers::flag_number(s.nulled),
     ]
-}
-
-fn column_numbers(c: Column) -> [usize; 5]
-    ensures { λ r. ⌜ r ≡ columnNumbers c ⌝ }
-{
-    let kind = c.kind;
-    [
-        c.first,
-        c.rows,
-        c.blocks,
-        kind_number(kind),
-        flag_number(c.mapped),
-    ]
-}
-
-fn told_why(w: Why) -> Told
-    ensures { λ r. ⌜ r ≡ told w ⌝ }
-{
-    match w {
-        Why::Accepted => return Told { number: 0, row: 0 },
-        Why::Refused(r) => return Told {
-            number: bounds::number(r) as u64,
-            row: bounds::row(r),
-        },
-    }
 }
 
 // The state's numbers after a call: as they came where it is refused.
@@ -239,21 +152,12 @@ fn leave(a: Answer, state: &mut [usize; 11])
 }
 
 // The same, and the call's number.
-fn tell(a: Answer, state: &mut [usize; 11]) -> u64
+pub fn tell(a: Answer, state: &mut [usize; 11]) -> u64
     ensures { λ r. ⌜ (r ≡ whyNumber (a .why)) × (now (state .exit) ≡ ifAccepted (a .why) (numbersOf (a .state)) (now (state .entry))) ⌝ }
 {
     let w = a.why;
     leave(a, state);
     bounds::why_number(w) as u64
-}
-
-// The column's numbers after a finish: as they came where it is refused.
-fn hand(w: Why, c: Column, column: &mut [usize; 5])
-    ensures { λ _. ⌜ now (column .exit) ≡ ifAccepted w (columnNumbers c) (now (column .entry)) ⌝ }
-{
-    if bounds::is_accepted(w) {
-        *column = column_numbers(c);
-    }
 }
 
 // A builder started: its state's numbers, and the merge table emptied where it is used.
@@ -269,27 +173,6 @@ pub extern "C" fn tambuyeel_start(
         × (now (places .exit) ≡ startPlaces (settingsOf (now (settings .entry))) (now (places .entry))) ⌝ }
 {
     let a = finishing::start(settings_of(settings), places);
-    tell(a, state)
-}
-
-// A value is added n times: the one place where the work is done, so that it is compiled into it and the state stays out of memory.
-fn value_call(
-    state: &mut [usize; 11],
-    views: &mut [u8],
-    bytes: &mut [u8],
-    starts: &mut [usize],
-    lens: &mut [usize],
-    nulls: &mut [u8],
-    places: &mut [u32],
-    x: &[u8],
-    n: usize,
-) -> u64
-    ensures { λ r. ⌜ Exported (λ b. whyValues n b (now (x .entry))) (putValues n (now (x .entry))) (now (state .entry))
-        (now (views .entry)) (now (bytes .entry)) (now (starts .entry)) (now (lens .entry)) (now (nulls .entry)) (now (places .entry))
-        r (now (state .exit)) (now (views .exit)) (now (bytes .exit)) (now (starts .exit)) (now (lens .exit)) (now (nulls .exit)) (now (places .exit)) ⌝ }
-{
-    let s = state_of(state);
-    let a = values::append_values(s, views, bytes, starts, lens, nulls, places, x, n);
     tell(a, state)
 }
 
@@ -309,12 +192,14 @@ pub extern "C" fn tambuyeel_append_value(
         (now (views .entry)) (now (bytes .entry)) (now (starts .entry)) (now (lens .entry)) (now (nulls .entry)) (now (places .entry))
         r (now (state .exit)) (now (views .exit)) (now (bytes .exit)) (now (starts .exit)) (now (lens .exit)) (now (nulls .exit)) (now (places .exit)) ⌝ }
 {
-    value_call(state, views, bytes, starts, lens, nulls, places, x, 1)
+    let s = state_of(state);
+    let a = values::append_value(s, views, bytes, starts, lens, nulls, places, x);
+    tell(a, state)
 }
 
-// A value is added n times.
-#[no_mangle]
-pub extern "C" fn tambuyeel_append_values(
+// A value is added n times. It is exported by a crate of its own, times_exports: in one object with the call above each would call the same worker, and
+// hand it everything through memory, where now the work is compiled into both.
+pub fn tambuyeel_append_values(
     state: &mut [usize; 11],
     views: &mut [u8],
     bytes: &mut [u8],
@@ -329,7 +214,9 @@ pub extern "C" fn tambuyeel_append_values(
         (now (views .entry)) (now (bytes .entry)) (now (starts .entry)) (now (lens .entry)) (now (nulls .entry)) (now (places .entry))
         r (now (state .exit)) (now (views .exit)) (now (bytes .exit)) (now (starts .exit)) (now (lens .exit)) (now (nulls .exit)) (now (places .exit)) ⌝ }
 {
-    value_call(state, views, bytes, starts, lens, nulls, places, x, n)
+    let s = state_of(state);
+    let a = values::append_values(s, views, bytes, starts, lens, nulls, places, x, n);
+    tell(a, state)
 }
 
 // A null row is added.
@@ -439,7 +326,7 @@ pub extern "C" fn tambuyeel_append_column<'a>(
         (now (views .entry)) (now (bytes .entry)) (now (starts .entry)) (now (lens .entry)) (now (nulls .entry)) (now (places .entry))
         (r .number) (now (state .exit)) (now (views .exit)) (now (bytes .exit)) (now (starts .exit)) (now (lens .exit)) (now (nulls .exit))
         (now (places .entry))
-        × (r ≡ told (whyColumn (lent (now (srcviews .entry)) (now (srcbytes .entry)) (now (srcstarts .entry)) (now (srclens .entry))
+        × (r ≡ whyTold (whyColumn (lent (now (srcviews .entry)) (now (srcbytes .entry)) (now (srcstarts .entry)) (now (srclens .entry))
         (now (srcnulls .entry))) (columnFrom (now (column .entry))) (held (stateOf (now (state .entry))) (now (views .entry)) (now (bytes .entry))
         (now (starts .entry)) (now (lens .entry)) (now (nulls .entry)) (now (places .entry))))) ⌝ }
 {
@@ -457,42 +344,11 @@ pub extern "C" fn tambuyeel_append_column<'a>(
         srcstarts,
         srclens,
         srcnulls,
-        column_of(column),
+        numbers::column_of(column),
     );
     let w = a.why;
     leave(a, state);
-    told_why(w)
-}
-
-fn place_of(s: Spot) -> Place
-    ensures { λ r. ⌜ r ≡ placeOf s ⌝ }
-{
-    match s {
-        Spot::View(a, n) => return Place {
-            refused: 0,
-            buffer: 0,
-            offset: a,
-            len: n,
-        },
-        Spot::Data(a, n) => return Place {
-            refused: 0,
-            buffer: 1,
-            offset: a,
-            len: n,
-        },
-        Spot::NoBlock => return Place {
-            refused: 0,
-            buffer: 0,
-            offset: 0,
-            len: 0,
-        },
-        Spot::Outside => return Place {
-            refused: 0,
-            buffer: 0,
-            offset: 0,
-            len: 0,
-        },
-    }
+    numbers::told_why(w)
 }
 
 // Which bytes of which buffer a row's value is while it is built.
@@ -519,7 +375,14 @@ pub extern "C" fn tambuyeel_get_value(
             offset: 0,
             len: 0,
         },
-        Why::Accepted => return place_of(finishing::spot_row(s, views, bytes, starts, lens, row)),
+        Why::Accepted => return numbers::place_of(finishing::spot_row(
+            s,
+            views,
+            bytes,
+            starts,
+            lens,
+            row,
+        )),
     }
 }
 
@@ -548,7 +411,7 @@ pub extern "C" fn tambuyeel_finish(
     let done = a.answer;
     let w = done.why;
     let c = a.column;
-    hand(w, c, column);
+    numbers::hand(w, c, column);
     tell(done, state)
 }
 
@@ -577,6 +440,6 @@ pub extern "C" fn tambuyeel_finish_by_copy(
     let done = a.answer;
     let w = done.why;
     let c = a.column;
-    hand(w, c, column);
+    numbers::hand(w, c, column);
     tell(done, state)
 }

@@ -1,4 +1,11 @@
-// Values added in a batch to a fresh builder, an instrument for timing: nothing is promised but that it misuses nothing.
+// Values added in a batch to a fresh builder, an instrument for timing: nothing is promised of the whole but that it misuses nothing. Each value is added
+// by `values::add_part`, whose promise is that of the value call.
+ghost use mathlib.Core.Path.{_≡_};
+ghost use mathlib.Core.Bool.{true};
+ghost use Prim.Native.Nat.{_-_, _≤_, _<_};
+ghost use lib.ListN.{length};
+ghost use Rattle.bounds.specs.Bounds.{byteLimit};
+ghost use Rattle.builder.specs.State.{held, rowsRoom, fitsState};
 use builder::Merging;
 use builder::State;
 use column::Kind;
@@ -26,6 +33,7 @@ fn fresh(merge: usize) -> State {
     }
 }
 
+// One value more. The state fits what is lent before and after, so it isn't asked again.
 fn turn(
     s: State,
     views: &mut [u8],
@@ -34,9 +42,18 @@ fn turn(
     lens: &mut [usize],
     nulls: &mut [u8],
     places: &mut [u32],
-    x: &[u8],
-) -> State {
-    let r = values::append_value(s, views, bytes, starts, lens, nulls, places, x);
+    all: &[u8],
+    a: usize,
+    e: usize,
+) -> State
+    requires { ⌜ (fitsState (held s (now views) (now bytes) (now starts) (now lens) (now nulls) (now places)) ≡ true)
+        × (s .rows < rowsRoom (held s (now views) (now bytes) (now starts) (now lens) (now nulls) (now places)))
+        × (a ≤ e) × (e ≤ length (now all)) × (e - a ≤ byteLimit) ⌝ }
+    ensures { λ r. ⌜ (fitsState (held r (now (views .exit)) (now (bytes .exit)) (now (starts .exit)) (now (lens .exit)) (now (nulls .exit))
+        (now (places .exit))) ≡ true) × (r .merging ≡ s .merging) ⌝ }
+{
+    let t = builder::anew(s);
+    let r = values::add_part(t, views, bytes, starts, lens, nulls, places, all, a, e);
     r.state
 }
 
@@ -54,6 +71,16 @@ pub extern "C" fn tambuyeel_build(
     merge: usize,
 ) -> usize {
     let mut s = fresh(merge);
+    let merging = s.merging;
+    let room = builder::rows_room(merging, views.len(), nulls.len(), places.len());
+    if !builder::state_fits(
+        s,
+        room,
+        builder::blocks_room(starts.len(), lens.len()),
+        builder::bytes_room(bytes.len()),
+    ) {
+        return 0;
+    }
     let mut a = 0;
     let mut k = 0;
     while k < ends.len() {
@@ -64,7 +91,13 @@ pub extern "C" fn tambuyeel_build(
         if all.len() < e {
             return s.rows;
         }
-        s = turn(s, views, bytes, starts, lens, nulls, places, &all[a..e]);
+        if bounds::BYTE_LIMIT < e - a {
+            return s.rows;
+        }
+        if room <= s.rows {
+            return s.rows;
+        }
+        s = turn(s, views, bytes, starts, lens, nulls, places, all, a, e);
         a = e;
         k += 1;
     }

@@ -106,6 +106,14 @@ module _ (views bytes starts lens nulls : List ℕ) where
       (sym (block-in-data k h g) ∙ i)))
       (λ d. rw (← all-not k n (omega arith) h g i))
 
+  pub all-each : (n k : ℕ) → n ≤ length starts → n ≤ length lens → allInData tabled n ≡ true → k < n → inData (buffers [] bytes [] [])
+      (block (getD starts k 0) (getD lens k 0)) ≡ true
+  all-each n k s t a l = by (inData (buffers [] bytes [] []) (block (getD starts k 0) (getD lens k 0))) refl
+    where
+      by : (b : Bool) → inData (buffers [] bytes [] []) (block (getD starts k 0) (getD lens k 0)) ≡ b → b ≡ true
+      by true e = refl
+      by false e = all-not k n l (omega arith) (omega arith) e ∙ a
+
   -- neither the views nor the null map is asked
   pub all-bare : (n : ℕ) → allInData tabled n ≡ allInData (bare [] bytes starts lens) n
   unfolding allInData inData dataRoom

@@ -7,7 +7,7 @@ use lib.Seq.{paste}
 use Rattle.column.specs.declared.Block.{Block}
 use Rattle.column.specs.declared.Column.{Column}
 use Rattle.column.specs.Lent.{Lent, block}
-use Rattle.column.specs.Meaning.{rowView, validAt}
+use Rattle.column.specs.Meaning.{rowView, rowValid}
 
 -- what f says of the rows 0 to n - 1
 unfoldable pub rowsOf : {A : Type 0} → (ℕ → A) → ℕ → List A
@@ -18,7 +18,7 @@ unfoldable pub viewsOf : Lent → Column → List (List ℕ)
 viewsOf l c = rowsOf (rowView l c) (c .rows)
 
 unfoldable pub bitsOf : Lent → Column → List Bool
-bitsOf l c = rowsOf (validAt l c) (c .rows)
+bitsOf l c = rowsOf (rowValid l c) (c .rows)
 
 -- blocks end to end
 unfoldable pub flat : List (List ℕ) → List ℕ

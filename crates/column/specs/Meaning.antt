@@ -34,5 +34,5 @@ unfoldable pub shownAt : Lent → Column → ℕ → List ℕ
 shownAt l c r = shown (blocksOf l (c .blocks)) (rowView l c r)
 
 -- a row isn't null; without a map none is
-unfoldable pub validAt : Lent → Column → ℕ → Bool
-validAt l c r = bits.validAt (l .nulls) (c .mapped) (c .first + r)
+unfoldable pub rowValid : Lent → Column → ℕ → Bool
+rowValid l c r = bits.validAt (l .nulls) (c .mapped) (c .first + r)

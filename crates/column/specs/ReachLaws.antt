@@ -77,8 +77,8 @@ pub record Spans (bs ss ns : List ℕ) (n k offset len : ℕ) : Type 0 where
   pub inside : getD ss k 0 + getD ns k 0 ≤ length bs
   pub range : offset + len ≤ getD ns k 0
 
-abbrev pub Reached : List ℕ → List ℕ → List ℕ → ℕ → List ℕ → Type 0
-Reached bs ss ns n v = Spans bs ss ns n (blockOf v) (offsetOf v) (lengthOf v)
+abbrev pub ReachSpans : List ℕ → List ℕ → List ℕ → ℕ → List ℕ → Type 0
+ReachSpans bs ss ns n v = Spans bs ss ns n (blockOf v) (offsetOf v) (lengthOf v)
 
 module _ (views bytes starts lens nulls : List ℕ) (n : ℕ) (v : List ℕ) (s : n ≤ length starts) (t : n ≤ length lens) (long : shortMost < lengthOf v) where
   abbrev there : Lent
@@ -94,7 +94,7 @@ module _ (views bytes starts lens nulls : List ℕ) (n : ℕ) (v : List ℕ) (s 
   picked true h = refl
   picked false h = h
 
-  numbered : blockOf v < n → lies && ranged ≡ true → Reached bytes starts lens n v
+  numbered : blockOf v < n → lies && ranged ≡ true → ReachSpans bytes starts lens n v
   numbered h both =
       let inside = in-data-gives (buffers [] bytes [] []) (getD starts (blockOf v) 0) (getD lens (blockOf v) 0) (and-left lies ranged both) in
       record {
@@ -105,11 +105,11 @@ module _ (views bytes starts lens nulls : List ℕ) (n : ℕ) (v : List ℕ) (s 
             (and-right lies ranged both);
       }
 
-  pub reach-gives : reachable there n v ≡ true → Reached bytes starts lens n v
+  pub reach-gives : reachable there n v ≡ true → ReachSpans bytes starts lens n v
   unfolding reachable
   reach-gives r = by (ltb (blockOf v) n) refl
     where
-      by : (b : Bool) → ltb (blockOf v) n ≡ b → Reached bytes starts lens n v
+      by : (b : Bool) → ltb (blockOf v) n ≡ b → ReachSpans bytes starts lens n v
       by true e =
           let h = ltb-true (blockOf v) n e in
           numbered h (picked (lies && ranged) (rw (at-block views bytes starts lens nulls n v (blockOf v) refl long h s t) r))

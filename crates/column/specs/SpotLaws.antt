@@ -15,12 +15,13 @@ use Rattle.views.specs.View.{viewSize, shortMost, isShort, lengthOf, blockOf, o
 use Rattle.column.specs.declared.Block.{Block}
 use Rattle.column.specs.declared.Spot.{Spot}
 use Rattle.column.specs.declared.Spot.the-variants.{View, Data, NoBlock, Outside}
-use Rattle.column.specs.Lent.{Lent, block, buffers, dataRoom, blockAt}
+use Rattle.column.specs.Lent.{Lent, block, buffers, tableOf, inData, dataRoom, blockAt}
+use Rattle.column.specs.Room.{bare, InRoom}
 use Rattle.column.specs.Meaning.{bytesOf, blocksOf, shown}
 use Rattle.column.specs.Spot.{spotOf, spotIn, bytesAt, pointsTo, Lies, Names}
 use Rattle.column.specs.Truth.{reachBy, reachOf, isInside, reachable}
-use Rattle.column.specs.FitLaws.{and-no}
-use Rattle.column.specs.ReachLaws.{take-inner, shown-short-at}
+use Rattle.column.specs.FitLaws.{and-no, table-at}
+use Rattle.column.specs.ReachLaws.{Spans, reach-spans, take-inner, shown-short-at}
 
 -- ---- test by test, the numbers as the code has them
 
@@ -191,6 +192,46 @@ module _ (views bytes nulls : List ℕ) (table : List Block) (n at : ℕ) where
       by (Data o k) (in-data l f g i) e = long l f i
       by NoBlock (no-block l f) e = absurd (true≢false (sym e))
       by Outside (outside l f) e = absurd (true≢false (sym e))
+
+-- ---- a long view over a table of two number slices, the numbers as the code has them
+
+module _ (views bytes starts lens : List ℕ) (n at len : ℕ) (el : len ≡ lengthOf (viewAt views at)) (long : shortMost < len)
+    (k : ℕ) (ek : k ≡ blockOf (viewAt views at)) (h : k < n) (hs : n ≤ length starts) (hn : n ≤ length lens) (o : ℕ) (eo : o ≡ offsetOf (viewAt views at)) where
+  abbrev listed : Lent
+  listed = bare views bytes starts lens
+
+  abbrev entry : Block
+  entry = block (getD starts k 0) (getD lens k 0)
+
+  tabled-spot : (x : Spot) → x ≡ spotOf (dataRoom listed) n entry (viewAt views at) at → x ≡ spotIn listed n (viewAt views at) at
+  tabled-spot x e = e ∙ ap (λ (b : Block). spotOf (dataRoom listed) n b (viewAt views at) at)
+      (sym (table-at starts lens k (omega arith) (omega arith)) ∙ ap (λ (j : ℕ). getD (tableOf starts lens) j (block 0 0)) ek)
+
+  pub long-over : getD lens k 0 < o + len → Outside ≡ spotIn listed n (viewAt views at) at
+  long-over g = tabled-spot Outside (spot-over (dataRoom listed) n entry (viewAt views at) at len el long k ek h o eo g)
+
+  pub long-past : inData (buffers [] bytes [] []) entry ≡ false → Outside ≡ spotIn listed n (viewAt views at) at
+  unfolding inData dataRoom
+  long-past g = tabled-spot Outside (spot-past (dataRoom listed) n entry (viewAt views at) at len el long k ek h o eo
+      (leb-false (getD starts k 0 + getD lens k 0) (dataRoom listed) g))
+
+  pub long-data : getD starts k 0 + getD lens k 0 ≤ byteLimit → getD starts k 0 + getD lens k 0 ≤ length bytes → o + len ≤ getD lens k 0
+      → Data (getD starts k 0 + o) len ≡ spotIn listed n (viewAt views at) at
+  unfolding dataRoom
+  long-data f g i =
+      tabled-spot (Data (getD starts k 0 + o) len) (spot-data (dataRoom listed) n entry (viewAt views at) at len el long k ek h o eo (omega arith) i)
+
+-- the same of a view that is reachable
+module _ (views bytes starts lens : List ℕ) (n at len k o : ℕ) (el : len ≡ lengthOf (viewAt views at)) (long : shortMost < len)
+    (ek : k ≡ blockOf (viewAt views at)) (eo : o ≡ offsetOf (viewAt views at)) (room : InRoom views starts lens n at)
+    (r : reachable (bare views bytes starts lens) n (viewAt views at) ≡ true) where
+  pub reached-spans : Spans bytes starts lens n k o len
+  reached-spans = reach-spans views bytes starts lens [] n (viewAt views at) (room .starts) (room .lens) (rw el at long) k o len ek eo el r
+
+  pub reached-data : Data (getD starts k 0 + o) len ≡ spotIn (bare views bytes starts lens) n (viewAt views at) at
+  reached-data =
+      let g = reached-spans in
+      long-data views bytes starts lens n at len el long k ek (g .block) (room .starts) (room .lens) o eo (g .limit) (g .inside) (g .range)
 
 -- ---- a spot in hand
 

@@ -152,12 +152,6 @@ module _ (l : Lent) (k : Kind) (n : ℕ) (v : List ℕ) (t : isTrue l k n v ≡ 
   unfolding isTrue
   true-reach = and-left (reachable l n v) (honest v (shown (blocksOf l n) v) && ofKind k (shown (blocksOf l n) v)) t
 
-  pub true-honest : honest v (shown (blocksOf l n) v) ≡ true
-  unfolding isTrue
-  true-honest =
-      and-left (honest v (shown (blocksOf l n) v)) (ofKind k (shown (blocksOf l n) v))
-      (and-right (reachable l n v) (honest v (shown (blocksOf l n) v) && ofKind k (shown (blocksOf l n) v)) t)
-
   pub true-of : ofKind k (shown (blocksOf l n) v) ≡ true
   unfolding isTrue
   true-of =

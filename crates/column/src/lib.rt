@@ -212,6 +212,53 @@ pub fn spot_at(
     spot_with(views, at, blocks, room_of(bytes), b)
 }
 
+// Whether a block lies in the data, where it may be known that it does.
+fn lies(bytes: &[u8], start: usize, len: usize, known: bool) -> bool
+    ensures { λ r. ⌜ ((known ≡ true → inData (buffers [] (now (bytes .entry)) [] []) (block start len) ≡ true)
+        → r ≡ inData (buffers [] (now (bytes .entry)) [] []) (block start len)) ⌝ }
+{
+    if known {
+        return true;
+    }
+    in_data(bytes, start, len)
+}
+
+// The same as `spot_at`, where it may be known that the first blocks of the table lie in the data: no long row is then tested for it.
+pub fn spot_knowing(
+    views: &[u8],
+    bytes: &[u8],
+    starts: &[usize],
+    lens: &[usize],
+    blocks: usize,
+    known: bool,
+    at: usize,
+) -> Spot
+    requires { ⌜ InRoom (now views) (now starts) (now lens) blocks at
+        × (known ≡ true → allInData (bare [] (now bytes) (now starts) (now lens)) blocks ≡ true) ⌝ }
+    ensures { λ r. ⌜ r ≡ spotIn (bare (now (views .entry)) (now (bytes .entry)) (now (starts .entry)) (now (lens .entry))) blocks
+        (viewAt (now (views .entry)) at) at ⌝ }
+{
+    let len = views::view_len(views, at);
+    if views::SHORT_MOST < len {
+        let k = views::view_block(views, at);
+        if blocks <= k {
+            return Spot::NoBlock;
+        }
+        let offset = views::view_offset(views, at);
+        let end = offset + len;
+        let start = starts[k];
+        let size = lens[k];
+        if size < end {
+            return Spot::Outside;
+        }
+        if !lies(bytes, start, size, known) {
+            return Spot::Outside;
+        }
+        return Spot::Data(start + offset, len);
+    }
+    Spot::View(views::VIEW_SIZE * at + 4, len)
+}
+
 fn reach_of(s: Spot) -> Reach
     ensures { λ r. ⌜ r ≡ reachBy s ⌝ }
 {
@@ -286,6 +333,29 @@ pub fn reachable_at(
     is_reached(spot_at(views, bytes, starts, lens, blocks, at))
 }
 
+// Where the value of a row stands whose view is reachable.
+fn spot_reached(
+    views: &[u8],
+    bytes: &[u8],
+    starts: &[usize],
+    lens: &[usize],
+    blocks: usize,
+    at: usize,
+) -> Spot
+    requires { ⌜ InRoom (now views) (now starts) (now lens) blocks at × (reachable (bare (now views) (now bytes) (now starts) (now lens)) blocks
+        (viewAt (now views) at) ≡ true) ⌝ }
+    ensures { λ r. ⌜ r ≡ spotIn (bare (now (views .entry)) (now (bytes .entry)) (now (starts .entry)) (now (lens .entry))) blocks
+        (viewAt (now (views .entry)) at) at ⌝ }
+{
+    let len = views::view_len(views, at);
+    if views::SHORT_MOST < len {
+        let k = views::view_block(views, at);
+        let offset = views::view_offset(views, at);
+        return Spot::Data(starts[k] + offset, len);
+    }
+    Spot::View(views::VIEW_SIZE * at + 4, len)
+}
+
 // The value that a reachable view shows: a part of the views where it is short, of the data where it is long.
 pub fn value_part<'a>(
     views: &'a [u8],
@@ -302,7 +372,7 @@ pub fn value_part<'a>(
         × (ptr r ≡ pointsTo (ptr (views .entry)) (ptr (bytes .entry)) (spotIn (bare (now (views .entry)) (now (bytes .entry)) (now (starts .entry))
         (now (lens .entry))) blocks (viewAt (now (views .entry)) at) at)) ⌝ }
 {
-    let s = spot_at(views, bytes, starts, lens, blocks, at);
+    let s = spot_reached(views, bytes, starts, lens, blocks, at);
     part_of(views, bytes, s)
 }
 

@@ -20,7 +20,7 @@ use Rattle.showing.specs.Row.{Row, Fits}
 use Rattle.showing.specs.Stores.{blocks-at, block-length, getD-rows}
 use Rattle.showing.specs.Rooms.{rooms}
 use Rattle.compaction.specs.Cut.{isNone}
-use Rattle.compaction.specs.Compact.{longOf, valueAt, viewBy, newLens, newView, whyCompact, compacted, compactColumn}
+use Rattle.compaction.specs.Compact.{longOf, rowShown, viewBy, newLens, newView, whyCompact, compacted, compactColumn}
 use Rattle.compaction.specs.LaidLaws.{view-short}
 use Rattle.compaction.specs.Bounded.{points, pointing, Bounded}
 use Rattle.compaction.proofs.Kept.{Fill, filled, close, lay, roomOf, fills, blocksOut, Small, small-fills, fits-lay, view-placed}
@@ -157,7 +157,7 @@ module _ (most : ℕ) (l : Lent) (c : Column) (out : Lent) (r : Room most l c ou
       record {
         single = λ k h g.
             pointed-same (compacted most l c out) (compactColumn most l c) (newView most l c) k (c .rows) row-back
-            ∙ bound-out most (rowView l c) (valueAt l c) (blocksOf l (c .blocks)) (c .rows) (old-row most l c out r) (bytes-small most l c out r .0)
+            ∙ bound-out most (rowView l c) (rowShown l c) (blocksOf l (c .blocks)) (c .rows) (old-row most l c out r) (bytes-small most l c out r .0)
             (bytes-small most l c out r .1) k (rw (block-long k h) g);
       }
 

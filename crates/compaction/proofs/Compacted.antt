@@ -18,7 +18,7 @@ use Rattle.null_bits.specs.RunLaws.{length-bits}
 use Rattle.views.specs.View.{viewSize, viewAt, lengthOf}
 use Rattle.column.specs.declared.Column.{Column}
 use Rattle.column.specs.Lent.{Lent, block, blockAt, fits, rowRoom, blockRoom, dataRoom}
-use Rattle.column.specs.Meaning.{rowView, blocksOf, shown, shownAt, validAt}
+use Rattle.column.specs.Meaning.{rowView, blocksOf, shown, shownAt, rowValid}
 use Rattle.column.specs.Truth.{reachable, honest, ofKind, isTrue, trueAt}
 use Rattle.column.specs.Laid.{rowsOf, viewsOf, bitsOf, flat}
 use Rattle.showing.specs.Row.{Row}
@@ -29,7 +29,7 @@ use Rattle.showing.specs.Truths.{AllIn, row-true, true-row}
 use Rattle.showing.specs.LaidLaws.{bits-anew}
 use Rattle.showing.specs.Shows.{Shows, view-size, shows-rows, shows-row}
 use Rattle.compaction.specs.LaidLaws.{flat-total, lens-total}
-use Rattle.compaction.specs.Compact.{longLens, valueAt, newLens, newBytes, newView, whyCompact, compacted, compactColumn}
+use Rattle.compaction.specs.Compact.{longLens, rowShown, newLens, newBytes, newView, whyCompact, compacted, compactColumn}
 use Rattle.compaction.proofs.Kept.{blocksOut, lens-out, flat-out, rows-out}
 use Rattle.laying.specs.Rooms.{whyRooms}
 use Rattle.laying.specs.Written.{putRows, total}
@@ -62,34 +62,34 @@ room most l c out e =
 
 -- the new blocks as bytes
 abbrev pub newBlocks : ℕ → Lent → Column → List (List ℕ)
-newBlocks most l c = blocksOut most (rowView l c) (valueAt l c) (c .rows)
+newBlocks most l c = blocksOut most (rowView l c) (rowShown l c) (c .rows)
 
 module _ (most : ℕ) (l : Lent) (c : Column) (out : Lent) (r : Room most l c out) where
-  pub old-row : (i : ℕ) → i < c .rows → Row (blocksOf l (c .blocks)) (rowView l c i) (valueAt l c i)
+  pub old-row : (i : ℕ) → i < c .rows → Row (blocksOf l (c .blocks)) (rowView l c i) (rowShown l c i)
   old-row i h = true-row l (c .kind) (c .blocks) (rowView l c i) (view-size l c (r .fitted) i h) (r .judged i h)
 
-  pub old-sized : (i : ℕ) → i < c .rows → length (valueAt l c i) ≡ lengthOf (rowView l c i)
+  pub old-sized : (i : ℕ) → i < c .rows → length (rowShown l c i) ≡ lengthOf (rowView l c i)
   old-sized i h = sym (old-row i h .len)
 
   pub lens-new : map length (newBlocks most l c) ≡ newLens most l c
-  lens-new = lens-out most (rowView l c) (valueAt l c) (c .rows) old-sized
+  lens-new = lens-out most (rowView l c) (rowShown l c) (c .rows) old-sized
 
   pub count-new : length (newBlocks most l c) ≡ length (newLens most l c)
   count-new = sym (length-map (newBlocks most l c) length) ∙ ap length lens-new
 
   bytes-new : flat (newBlocks most l c) ≡ newBytes l c
-  bytes-new = flat-out most (rowView l c) (valueAt l c) (c .rows)
+  bytes-new = flat-out most (rowView l c) (rowShown l c) (c .rows)
 
   total-new : length (newBytes l c) ≡ total (longLens l c (c .rows))
-  total-new = flat-total (λ q. lengthOf (rowView l c q)) (valueAt l c) (c .rows) old-sized
+  total-new = flat-total (λ q. lengthOf (rowView l c q)) (rowShown l c) (c .rows) old-sized
 
   pub bytes-small : (length (newBlocks most l c) < 2 ^ 32) × (length (flat (newBlocks most l c)) < 2 ^ 32)
   bytes-small =
       let m = rooms true out in
       (omega (arith, count-new, r .blocks, block-limit-small), rw (bytes-new, total-new) (omega (arith, r .bytes, byte-limit-small)))
 
-  pub new-rows : Rows (newBlocks most l c) (rowsOf (newView most l c) (c .rows)) (rowsOf (valueAt l c) (c .rows))
-  new-rows = rows-out most (rowView l c) (valueAt l c) (c .rows) (blocksOf l (c .blocks)) old-row (bytes-small .0) (bytes-small .1)
+  pub new-rows : Rows (newBlocks most l c) (rowsOf (newView most l c) (c .rows)) (rowsOf (rowShown l c) (c .rows))
+  new-rows = rows-out most (rowView l c) (rowShown l c) (c .rows) (blocksOf l (c .blocks)) old-row (bytes-small .0) (bytes-small .1)
 
   new-sized : (i : ℕ) → i < c .rows → length (newView most l c i) ≡ viewSize
   new-sized i h =
@@ -109,17 +109,17 @@ module _ (most : ℕ) (l : Lent) (c : Column) (out : Lent) (r : Room most l c ou
   blocks-back =
       rw (← count-new, ← lens-new, ← bytes-new)
       (blocks-read (out .bytes) (out .table) (newBlocks most l c) (putRows (out .views) (newView most l c) (c .rows))
-      (pick (c .mapped) (putBits (out .nulls) 0 (validAt l c) (c .rows)) (out .nulls)))
+      (pick (c .mapped) (putBits (out .nulls) 0 (rowValid l c) (c .rows)) (out .nulls)))
 
   bits-back : bitsOf (compacted most l c out) (compactColumn most l c) ≡ bitsOf l c
-  unfolding bitsOf compacted validAt bits.validAt
+  unfolding bitsOf compacted rowValid bits.validAt
   bits-back = by (c .mapped) refl (rooms (c .mapped) out .nulls)
     where
       by : (t : Bool) → c .mapped ≡ t → (c .mapped ≡ true → rowRoom (c .mapped) out ≤ 8 * length (out .nulls))
-          → rowsOf (λ i. bits.validAt (pick t (putBits (out .nulls) 0 (validAt l c) (c .rows)) (out .nulls)) t (0 + i)) (c .rows)
-          ≡ rowsOf (validAt l c) (c .rows)
-      by true e m = bits-anew (out .nulls) (validAt l c) (c .rows) (omega (arith, r .rows, m e))
-      by false e m = rows-same (λ i. bits.validAt (out .nulls) false (0 + i)) (validAt l c) (c .rows) (λ i h. rw e)
+          → rowsOf (λ i. bits.validAt (pick t (putBits (out .nulls) 0 (rowValid l c) (c .rows)) (out .nulls)) t (0 + i)) (c .rows)
+          ≡ rowsOf (rowValid l c) (c .rows)
+      by true e m = bits-anew (out .nulls) (rowValid l c) (c .rows) (omega (arith, r .rows, m e))
+      by false e m = rows-same (λ i. bits.validAt (out .nulls) false (0 + i)) (rowValid l c) (c .rows) (λ i h. rw e)
 
   length-bytes : length (compacted most l c out .bytes) ≡ length (out .bytes)
   unfolding compacted
@@ -129,8 +129,8 @@ module _ (most : ℕ) (l : Lent) (c : Column) (out : Lent) (r : Room most l c ou
   unfolding compacted
   length-nulls = by (c .mapped)
     where
-      by : (t : Bool) → length (pick t (putBits (out .nulls) 0 (validAt l c) (c .rows)) (out .nulls)) ≡ length (out .nulls)
-      by true = length-bits (out .nulls) 0 (validAt l c) (c .rows)
+      by : (t : Bool) → length (pick t (putBits (out .nulls) 0 (rowValid l c) (c .rows)) (out .nulls)) ≡ length (out .nulls)
+      by true = length-bits (out .nulls) 0 (rowValid l c) (c .rows)
       by false = refl
 
   length-tables : length (compacted most l c out .table) ≡ length (out .table)
@@ -167,7 +167,7 @@ module _ (most : ℕ) (l : Lent) (c : Column) (out : Lent) (r : Room most l c ou
             (compacted most l c out) out length-bytes,
       ))
 
-  pub compact-shows : Shows (compacted most l c out) (compactColumn most l c) (rowsOf (valueAt l c) (c .rows)) (bitsOf l c)
+  pub compact-shows : Shows (compacted most l c out) (compactColumn most l c) (rowsOf (rowShown l c) (c .rows)) (bitsOf l c)
   compact-shows =
       record {
         rows = rw (blocks-back, views-back) new-rows;
@@ -188,7 +188,7 @@ pub compacted-shows : (most : ℕ) (l : Lent) (c : Column) (out : Lent) {xs : Li
     → Shows (compacted most l c out) (compactColumn most l c) xs bs
 compacted-shows most l c out {xs} {bs} s e =
     let n : c .rows ≡ length xs = shows-rows s in
-    let v : rowsOf (valueAt l c) (c .rows) ≡ xs = ap (rowsOf (valueAt l c)) n ∙ rows-list (valueAt l c) xs [] (λ i h. shows-row s i (rw n h) .val) in
+    let v : rowsOf (rowShown l c) (c .rows) ≡ xs = ap (rowsOf (rowShown l c)) n ∙ rows-list (rowShown l c) xs [] (λ i h. shows-row s i (rw n h) .val) in
     rw (s .bits, v) at (compact-shows most l c out (room most l c out e))
 
 -- and is true

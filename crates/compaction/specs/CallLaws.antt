@@ -20,7 +20,7 @@ use Rattle.bounds.specs.declared.Why.the-variants.{Refused}
 use Rattle.column.specs.declared.Column.{Column}
 use Rattle.column.specs.Lent.{Lent, block, lent, fits, inData, rowRoom, blockRoom, dataRoom}
 use Rattle.column.specs.Room.{bare}
-use Rattle.column.specs.Meaning.{rowView, blocksOf, validAt}
+use Rattle.column.specs.Meaning.{rowView, blocksOf, rowValid}
 use Rattle.column.specs.Truth.{reachOf, reachable, isTrue, trueAt, lowest}
 use Rattle.column.specs.FitLaws.{Fitting, fits-gives, length-table}
 use Rattle.column.specs.LowestLaws.{lowest-none, lowest-bad, lowest-good}
@@ -30,9 +30,9 @@ use Rattle.compaction.specs.declared.Survey.{Survey}
 use Rattle.compaction.specs.declared.Judged.{Judged}
 use Rattle.compaction.specs.declared.Outcome.{Outcome}
 use Rattle.compaction.specs.Compact.{longLens, newLens, whyCompact, compacted, compactColumn, compactOf, Wrote}
-use Rattle.compaction.specs.Steps.{standOf, standAt, Source, Measured, Few, WriteIn, TableIn, Counted, Filled, Listed, blocksBy, Judges, mapBy}
+use Rattle.compaction.specs.Steps.{standOf, standAt, SourceFits, Measured, Few, WriteIn, TableIn, CutCounted, Filled, CutListed, blocksBy, Judges, mapBy}
 use Rattle.compaction.specs.LaidLaws.{stand-total, lens-none, count-blocks}
-use Rattle.laying.specs.RoomLaws.{Roomy, rooms-give}
+use Rattle.laying.specs.RoomLaws.{RoomGiven, rooms-give}
 use Rattle.laying.specs.Rooms.{whyRooms}
 use Rattle.laying.specs.Written.{total}
 
@@ -128,7 +128,7 @@ module _ (most : ℕ) (views bytes starts lens nulls : List ℕ) (c : Column) (v
 
   module _ (a : isAccepted (whyCompact most from c into) ≡ true) where
     past : (fits from c ≡ true) × ((r : ℕ) → r < c .rows → trueAt (c .kind) from c r ≡ true)
-        × Roomy (rowRoom (c .mapped) into) (blockRoom into) (dataRoom into) (c .rows) (length (newLens most from c)) (total (longLens from c (c .rows)))
+        × RoomGiven (rowRoom (c .mapped) into) (blockRoom into) (dataRoom into) (c .rows) (length (newLens most from c)) (total (longLens from c (c .rows)))
     unfolding whyCompact
     past =
         let x = accepted-both Setting (ltb mostCompaction most) _ a in
@@ -139,7 +139,7 @@ module _ (most : ℕ) (views bytes starts lens nulls : List ℕ) (c : Column) (v
     given : Fitting views starts lens nulls c
     given = fits-gives views bytes starts lens nulls c (past .0)
 
-    pub source : Source views starts lens c
+    pub source : SourceFits views starts lens c
     source = record { rows = given .rows; views = given .views; starts = given .starts; lens = given .lens }
 
     true-bared : (r : ℕ) → r < c .rows → trueAt (c .kind) (bare views bytes starts lens) c r ≡ true
@@ -217,14 +217,14 @@ module _ (most : ℕ) (views bytes starts lens nulls : List ℕ) (c : Column) (v
         nulls = accepted-no verdict (j .why) (compacted most orig c dest .nulls) ms ms (g .verdict) h refl;
       }
 
-  pub counted : isAccepted (j .why) ≡ true → Counted most (rowView orig c) (c .rows) (j .blocks) (j .bytes)
+  pub counted : isAccepted (j .why) ≡ true → CutCounted most (rowView orig c) (c .rows) (j .blocks) (j .bytes)
   counted h = g .count (rw (g .verdict) at h)
 
   pub accepted : isAccepted (j .why) ≡ true → isAccepted verdict ≡ true
   accepted h = rw (g .verdict) at h
 
   module _ (h : isAccepted (j .why) ≡ true) (vs′ bs′ ss′ ns′ ms′ : List ℕ) (f : Filled most (bare views bytes starts lens) c vs bs vs′ bs′)
-      (k : Listed most (rowView (lent views bytes starts lens nulls) c) (c .rows) ss ns ss′ ns′)
+      (k : CutListed most (rowView (lent views bytes starts lens nulls) c) (c .rows) ss ns ss′ ns′)
       (m : ms′ ≡ mapBy ms nulls (c .mapped) (c .first) (c .rows)) where
     views-are : vs′ ≡ compacted most orig c dest .views
     unfolding compacted blocksOf
@@ -235,7 +235,7 @@ module _ (most : ℕ) (views bytes starts lens nulls : List ℕ) (c : Column) (v
     bytes-are = f .bytes
 
     nulls-are : ms′ ≡ compacted most orig c dest .nulls
-    unfolding compacted mapBy validAt
+    unfolding compacted mapBy rowValid
     nulls-are = m
 
     column-is : _≡_ {A = Column} (record { first = 0; rows = c .rows; blocks = j .blocks; kind = c .kind; mapped = c .mapped }) (compactColumn most orig c)

@@ -14,11 +14,11 @@ use Rattle.bounds.specs.declared.Refusal.the-variants.{Setting, Fit}
 use Rattle.bounds.specs.declared.Why.{Why}
 use Rattle.column.specs.declared.Column.{Column}
 use Rattle.column.specs.Lent.{Lent, buffers, lent, tableOf, fits}
-use Rattle.column.specs.Meaning.{rowView, blocksOf, shown, validAt}
+use Rattle.column.specs.Meaning.{rowView, blocksOf, shown, rowValid}
 use Rattle.column.specs.Truth.{trueAt, lowest}
 use Rattle.column.specs.Laid.{flat}
 use Rattle.compaction.specs.declared.Outcome.{Outcome}
-use Rattle.compaction.specs.Cut.{Cut, place, cutLens}
+use Rattle.compaction.specs.Cut.{Cut, cutPlace, cutLens}
 use Rattle.laying.specs.Rooms.{whyRooms}
 use Rattle.laying.specs.Written.{front, putRows, startsFrom, total}
 
@@ -38,19 +38,19 @@ lenAt l c r = lengthOf (rowView l c r)
 abbrev pub longLens : Lent → Column → ℕ → List ℕ
 longLens l c n = longOf (lenAt l c) (lenAt l c) n
 
-abbrev pub valueAt : Lent → Column → ℕ → List ℕ
-valueAt l c r = shown (blocksOf l (c .blocks)) (rowView l c r)
+abbrev pub rowShown : Lent → Column → ℕ → List ℕ
+rowShown l c r = shown (blocksOf l (c .blocks)) (rowView l c r)
 
 abbrev pub longValues : Lent → Column → ℕ → List (List ℕ)
-longValues l c n = longOf (lenAt l c) (valueAt l c) n
+longValues l c n = longOf (lenAt l c) (rowShown l c) n
 
 -- row r's view: a short one as it is, a long one by its place among the long ones before it
 unfoldable pub viewBy : ℕ → (ℕ → List ℕ) → (ℕ → List ℕ) → ℕ → List ℕ
-viewBy most view value r = pick (isShort (lengthOf (view r))) (view r) (placedBy (place most (longOf (λ q. lengthOf (view q)) (λ q. lengthOf (view q))
+viewBy most view value r = pick (isShort (lengthOf (view r))) (view r) (placedBy (cutPlace most (longOf (λ q. lengthOf (view q)) (λ q. lengthOf (view q))
     r) (lengthOf (view r))) (value r))
 
 abbrev pub newView : ℕ → Lent → Column → ℕ → List ℕ
-newView most l c = viewBy most (rowView l c) (valueAt l c)
+newView most l c = viewBy most (rowView l c) (rowShown l c)
 
 abbrev pub newLens : ℕ → Lent → Column → List ℕ
 newLens most l c = cutLens most (longLens l c (c .rows))
@@ -73,7 +73,7 @@ compacted most l c out =
     (putRows (out .views) (newView most l c) (c .rows))
     (front (out .bytes) (newBytes l c))
     (front (out .table) (tableOf (startsFrom 0 (newLens most l c)) (newLens most l c)))
-    (pick (c .mapped) (putBits (out .nulls) 0 (validAt l c) (c .rows)) (out .nulls))
+    (pick (c .mapped) (putBits (out .nulls) 0 (rowValid l c) (c .rows)) (out .nulls))
 
 abbrev pub compactColumn : ℕ → Lent → Column → Column
 compactColumn most l c = record { first = 0; rows = c .rows; blocks = length (newLens most l c); kind = c .kind; mapped = c .mapped }

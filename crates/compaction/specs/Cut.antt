@@ -33,8 +33,8 @@ unfoldable pub cutAll : ℕ → List ℕ → Cut
 cutAll most ns = cutFrom most ns (cut [] 0)
 
 -- the place of a value of n bytes after values of the lengths ns
-abbrev pub place : ℕ → List ℕ → ℕ → Cut
-place most ns n = roomFor most n (cutAll most ns)
+abbrev pub cutPlace : ℕ → List ℕ → ℕ → Cut
+cutPlace most ns n = roomFor most n (cutAll most ns)
 
 abbrev pub isNone : List ℕ → Bool
 isNone [] = true

@@ -15,7 +15,7 @@ use Rattle.views.specs.View.{viewSize, shortMost, lengthOf, viewAt, longView}
 use Rattle.compaction.specs.declared.Stand.{Stand}
 use Rattle.compaction.specs.Cut.{Cut, cut, shut, add, roomFor, cutFrom, cutAll}
 use Rattle.compaction.specs.Compact.{longOf}
-use Rattle.compaction.specs.Steps.{stand, standOf, roomStand, addStand, stepOf, closedAt, recordedAt, LongPut, ShortPut, RowPut, TablePut}
+use Rattle.compaction.specs.Steps.{stand, standOf, roomStand, addStand, rowStep, closedAt, recordedAt, LongPut, ShortPut, RowPut, TablePut}
 use Rattle.laying.specs.Written.{total}
 use Rattle.laying.specs.WrittenLaws.{total-append, total-one}
 
@@ -55,8 +55,8 @@ module _ (most : ℕ) (len : ℕ → ℕ) (k : ℕ) where
   unfolding longOf
   cut-long h = rw (lt-leb (len k) shortMost h) (cut-snoc most (longOf len len k) (len k))
 
-  pub stand-row : standOf (cutAll most (longOf len len (suc k))) ≡ stepOf most (len k) (standOf (cutAll most (longOf len len k)))
-  unfolding stepOf ifLe
+  pub stand-row : standOf (cutAll most (longOf len len (suc k))) ≡ rowStep most (len k) (standOf (cutAll most (longOf len len k)))
+  unfolding rowStep ifLe
   stand-row = by (leb (len k) shortMost) refl
     where
       by : (t : Bool) → leb (len k) shortMost ≡ t
@@ -71,7 +71,7 @@ module _ (most : ℕ) (len : ℕ → ℕ) (k : ℕ) where
                 (len k) (cutAll most (longOf len len k)),
           )
 
-pub stand-next : (most : ℕ) (len : ℕ → ℕ) (k n : ℕ) (s t : Stand) → n ≡ len k → s ≡ standOf (cutAll most (longOf len len k)) → t ≡ stepOf most n s
+pub stand-next : (most : ℕ) (len : ℕ → ℕ) (k n : ℕ) (s t : Stand) → n ≡ len k → s ≡ standOf (cutAll most (longOf len len k)) → t ≡ rowStep most n s
     → t ≡ standOf (cutAll most (longOf len len (k + 1)))
 stand-next most len k n s t e h g = rw (add-one k, stand-row most len k, ← e, ← h) g
 
@@ -85,8 +85,8 @@ pub record Grows (n : ℕ) (s t : Stand) : Type 0 where
   pub bytes : t .base + t .fill ≤ s .base + s .fill + n
   pub blocks : t .closed ≤ s .closed + 1
 
-pub step-grows : (most n : ℕ) (s : Stand) → Grows n s (stepOf most n s)
-unfolding stepOf roomStand ifLe
+pub step-grows : (most n : ℕ) (s : Stand) → Grows n s (rowStep most n s)
+unfolding rowStep roomStand ifLe
 step-grows most n s = by (leb n shortMost) (leb (s .fill + n) most)
   where
     by : (t u : Bool) → Grows n s (pick t s (addStand n (pick u s (stand (s .closed + 1) (s .base + s .fill) 0))))
@@ -94,13 +94,13 @@ step-grows most n s = by (leb n shortMost) (leb (s .fill + n) most)
     by false true = record { bytes = omega arith; blocks = omega arith }
     by false false = record { bytes = omega arith; blocks = omega arith }
 
-pub next-grows : (most n : ℕ) (s t : Stand) → t ≡ stepOf most n s → Grows n s t
+pub next-grows : (most n : ℕ) (s t : Stand) → t ≡ rowStep most n s → Grows n s t
 next-grows most n s t e = rw e (step-grows most n s)
 
 -- ---- the code's steps, test by test
 module _ (most n : ℕ) (s : Stand) where
-  pub step-short : n ≤ shortMost → s ≡ stepOf most n s
-  unfolding stepOf
+  pub step-short : n ≤ shortMost → s ≡ rowStep most n s
+  unfolding rowStep
   step-short h = le-yes n shortMost s (addStand n (roomStand most n s)) s h refl
 
   pub room-in : s .fill + n ≤ most → s ≡ roomStand most n s
@@ -111,12 +111,12 @@ module _ (most n : ℕ) (s : Stand) where
   unfolding roomStand
   room-over h = le-no (s .fill + n) most s (stand (s .closed + 1) (s .base + s .fill) 0) (stand (s .closed + 1) (s .base + s .fill) 0) h refl
 
-  pub step-in : shortMost < n → s .fill + n ≤ most → stand (s .closed) (s .base) (s .fill + n) ≡ stepOf most n s
-  unfolding stepOf
+  pub step-in : shortMost < n → s .fill + n ≤ most → stand (s .closed) (s .base) (s .fill + n) ≡ rowStep most n s
+  unfolding rowStep
   step-in h k = le-no n shortMost s (addStand n (roomStand most n s)) (stand (s .closed) (s .base) (s .fill + n)) h (ap (addStand n) (room-in k))
 
-  pub step-over : shortMost < n → most < s .fill + n → stand (s .closed + 1) (s .base + s .fill) n ≡ stepOf most n s
-  unfolding stepOf
+  pub step-over : shortMost < n → most < s .fill + n → stand (s .closed + 1) (s .base + s .fill) n ≡ rowStep most n s
+  unfolding rowStep
   step-over h k =
       le-no n shortMost s (addStand n (roomStand most n s)) (stand (s .closed + 1) (s .base + s .fill) n) h
       (ap (stand (s .closed + 1) (s .base + s .fill)) (sym (zero-add n)) ∙ ap (addStand n) (room-over k))
@@ -143,8 +143,8 @@ room-same most n s = by (leb (s .fill + n) most)
     by true = record { place = refl; offset = omega arith; blocks = omega arith }
     by false = record { place = omega arith; offset = omega arith; blocks = omega arith }
 
-pub roomed : (most n : ℕ) (s t : Stand) → t ≡ roomStand most n s → Roomed s t
-roomed most n s t e = rw e (room-same most n s)
+pub room-kept : (most n : ℕ) (s t : Stand) → t ≡ roomStand most n s → Roomed s t
+room-kept most n s t e = rw e (room-same most n s)
 
 -- ---- a row's writes, from those of the parts
 pub long-put : (most r : ℕ) (x : List ℕ) (s : Stand) (vs bs : List ℕ) (t u : Stand) (vs′ bs′ : List ℕ) → t ≡ roomStand most (length x) s
@@ -152,7 +152,7 @@ pub long-put : (most r : ℕ) (x : List ℕ) (s : Stand) (vs bs : List ℕ) (t u
     → vs′ ≡ paste vs (viewSize * r) (longView x (t .closed) (t .fill)) viewSize → bs′ ≡ paste bs (t .base + t .fill) x (length x)
     → LongPut most r x s vs bs u vs′ bs′
 long-put most r x s vs bs t u vs′ bs′ e f v b =
-    let g = roomed most (length x) s t e in
+    let g = room-kept most (length x) s t e in
     record { next = f ∙ ap (addStand (length x)) e; views = rw (← e) v; bytes = rw (g .place) at b }
 
 pub view-paste : (d s : List ℕ) (o r : ℕ) → paste d o (drop (viewSize * r) s) viewSize ≡ paste d o (viewAt s r) viewSize
@@ -179,7 +179,7 @@ module _ (most n : ℕ) (s : Stand) (ss ns : List ℕ) where
   pub table-long : (t u : Stand) (ss′ ns′ : List ℕ) → shortMost < n → t ≡ roomStand most n s → u ≡ addStand n t → ss′ ≡ closedAt most n s (s .base) ss
       → ns′ ≡ closedAt most n s (s .fill) ns
       → TablePut most n s ss ns u ss′ ns′
-  unfolding recordedAt stepOf
+  unfolding recordedAt rowStep
   table-long t u ss′ ns′ h e f p q =
       record {
         next = le-no n shortMost s (addStand n (roomStand most n s)) u h (f ∙ ap (addStand n) e);

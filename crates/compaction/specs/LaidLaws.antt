@@ -18,7 +18,7 @@ use Rattle.column.specs.Laid.{flat}
 use Rattle.compaction.specs.declared.Stand.{Stand}
 use Rattle.compaction.specs.Cut.{Cut, cut, shut, add, roomFor, cutFrom, cutAll, cutLens}
 use Rattle.compaction.specs.Compact.{longOf, placedBy, viewBy}
-use Rattle.compaction.specs.Steps.{stand, standOf, standAt, roomStand, addStand, stepOf, closedAt, recordedAt, LongPut, ShortPut, RowPut, TablePut, putBy, Laid, Tabled}
+use Rattle.compaction.specs.Steps.{stand, standOf, standAt, roomStand, addStand, rowStep, closedAt, recordedAt, LongPut, ShortPut, RowPut, TablePut, putBy, Laid, CutTabled}
 use Rattle.compaction.specs.CutLaws.{cut-snoc, stand-room, stand-row}
 use Rattle.laying.specs.Written.{front, putRows, startsFrom, total}
 use Rattle.laying.specs.WrittenLaws.{flat-snoc, front-paste, front-set, length-starts, starts-snoc, total-append, total-one}
@@ -179,11 +179,11 @@ laid-none most view value vs bs = record { views = refl; bytes = refl; stand = r
 
 -- ---- one row more of the table
 
-pub tabled-none : (most : ℕ) (view : ℕ → List ℕ) (ss ns : List ℕ) → Tabled most view ss ns 0 ss ns (stand 0 0 0)
+pub tabled-none : (most : ℕ) (view : ℕ → List ℕ) (ss ns : List ℕ) → CutTabled most view ss ns 0 ss ns (stand 0 0 0)
 unfolding longOf cutAll cutFrom startsFrom standOf total
 tabled-none most view ss ns = record { starts = refl; lens = refl; stand = refl }
 
-module _ (most : ℕ) (view : ℕ → List ℕ) (ss₀ ns₀ : List ℕ) (k : ℕ) (ss ns : List ℕ) (s t : Stand) (ss′ ns′ : List ℕ) (l : Tabled most view ss₀ ns₀ k
+module _ (most : ℕ) (view : ℕ → List ℕ) (ss₀ ns₀ : List ℕ) (k : ℕ) (ss ns : List ℕ) (s t : Stand) (ss′ ns′ : List ℕ) (l : CutTabled most view ss₀ ns₀ k
     ss ns s) where
   abbrev size : ℕ → ℕ
   size r = lengthOf (view r)
@@ -192,12 +192,12 @@ module _ (most : ℕ) (view : ℕ → List ℕ) (ss₀ ns₀ : List ℕ) (k : �
   before = cutAll most (longOf size size k)
 
   pub tabled-next : (shortMost < size k → (s .closed < length ss₀) × (s .closed < length ns₀)) → TablePut most (size k) s ss ns t ss′ ns′
-      → Tabled most view ss₀ ns₀ (suc k) ss′ ns′ t
+      → CutTabled most view ss₀ ns₀ (suc k) ss′ ns′ t
   unfolding recordedAt ifLe
   tabled-next room p = by (isShort (size k)) refl (p .starts) (p .lens)
     where
       by : (u : Bool) → isShort (size k) ≡ u → ss′ ≡ pick u ss (closedAt most (size k) s (s .base) ss) → ns′ ≡ pick u ns (closedAt most (size k) s (s .fill) ns)
-          → Tabled most view ss₀ ns₀ (suc k) ss′ ns′ t
+          → CutTabled most view ss₀ ns₀ (suc k) ss′ ns′ t
       by true e f g =
           record {
             starts = rw (long-short size size k e) (f ∙ l .starts);
@@ -220,8 +220,8 @@ pub record Rises (n : ℕ) (s t : Stand) : Type 0 where
   pub bytes : s .base + s .fill ≤ t .base + t .fill
   pub long : shortMost < n → s .base + s .fill + n ≡ t .base + t .fill
 
-step-rises : (most n : ℕ) (s : Stand) → Rises n s (stepOf most n s)
-unfolding stepOf roomStand ifLe
+step-rises : (most n : ℕ) (s : Stand) → Rises n s (rowStep most n s)
+unfolding rowStep roomStand ifLe
 step-rises most n s = by (leb n shortMost) refl (leb (s .fill + n) most)
   where
     by : (t : Bool) → leb n shortMost ≡ t → (u : Bool) → Rises n s (pick t s (addStand n (pick u s (stand (s .closed + 1) (s .base + s .fill) 0))))
@@ -307,8 +307,8 @@ lens-total most (n ∷ ns) =
 
 -- by the code's numbers
 pub tabled-step : (most : ℕ) (view : ℕ → List ℕ) (ss₀ ns₀ : List ℕ) (k n : ℕ) (ss ns : List ℕ) (s t : Stand) (ss′ ns′ : List ℕ)
-    → n ≡ lengthOf (view k) → Tabled most view ss₀ ns₀ k ss ns s
+    → n ≡ lengthOf (view k) → CutTabled most view ss₀ ns₀ k ss ns s
     → (shortMost < lengthOf (view k) → (s .closed < length ss₀) × (s .closed < length ns₀)) → TablePut most n s ss ns t ss′ ns′
-    → Tabled most view ss₀ ns₀ (k + 1) ss′ ns′ t
+    → CutTabled most view ss₀ ns₀ (k + 1) ss′ ns′ t
 tabled-step most view ss₀ ns₀ k n ss ns s t ss′ ns′ e l room p =
     rw (add-one k) (tabled-next most view ss₀ ns₀ k ss ns s t ss′ ns′ l room (subst (λ (m : ℕ). TablePut most m s ss ns t ss′ ns′) e p))

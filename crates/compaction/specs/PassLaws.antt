@@ -16,8 +16,8 @@ use Rattle.column.specs.TruthLaws.{true-reach}
 use Rattle.column.specs.ReachLaws.{length-shown}
 use Rattle.compaction.specs.declared.Stand.{Stand}
 use Rattle.compaction.specs.Cut.{Cut, shut, cutAll, cutLens}
-use Rattle.compaction.specs.Compact.{lenAt, valueAt, longOf}
-use Rattle.compaction.specs.Steps.{standOf, standAt, Source, RowIn, Few, WriteIn, TableIn, Counted, Laid, Tabled, Filled, Listed}
+use Rattle.compaction.specs.Compact.{lenAt, rowShown, longOf}
+use Rattle.compaction.specs.Steps.{standOf, standAt, SourceFits, RowIn, Few, WriteIn, TableIn, CutCounted, Laid, CutTabled, Filled, CutListed}
 use Rattle.compaction.specs.LaidLaws.{stand-below, long-below, lens-none, lens-some, shut-starts, shut-lens, count-blocks, lens-total}
 use mathlib.Core.Logic.{by-cases}
 use native.Mathlib.Decide.{ℕ-discrete}
@@ -25,7 +25,7 @@ use borrow.Author.Tests.{eq-eqb}
 use Rattle.laying.specs.Written.{startsFrom, total}
 use Rattle.laying.specs.WrittenLaws.{front-one, total-one}
 
-module _ (most : ℕ) (views bytes starts lens : List ℕ) (c : Column) (vs₀ bs₀ : List ℕ) (g : Source views starts lens c)
+module _ (most : ℕ) (views bytes starts lens : List ℕ) (c : Column) (vs₀ bs₀ : List ℕ) (g : SourceFits views starts lens c)
     (w : WriteIn most (bare views bytes starts lens) c vs₀ bs₀) where
   abbrev src : Lent
   src = bare views bytes starts lens
@@ -36,7 +36,7 @@ module _ (most : ℕ) (views bytes starts lens : List ℕ) (c : Column) (vs₀ b
   pub row-reach : (k : ℕ) → k < c .rows → reachable src (c .blocks) (rowView src c k) ≡ true
   row-reach k h = true-reach src (c .kind) (c .blocks) (rowView src c k) (w .truth k h)
 
-  pub row-sized : (k : ℕ) → k < c .rows → length (valueAt src c k) ≡ lenAt src c k
+  pub row-sized : (k : ℕ) → k < c .rows → length (rowShown src c k) ≡ lenAt src c k
   row-sized k h = length-shown views bytes starts lens [] (c .blocks) (rowView src c k) (g .starts) (g .lens) (length-view views (c .first + k)
       (row-there k h .row)) (row-reach k h)
 
@@ -55,7 +55,7 @@ module _ (most : ℕ) (views bytes starts lens : List ℕ) (c : Column) (vs₀ b
       }
 
   -- after all rows
-  pub filled : (vs bs : List ℕ) (s : Stand) → Laid most (rowView src c) (valueAt src c) vs₀ bs₀ (c .rows) vs bs s → Filled most src c vs₀ bs₀ vs bs
+  pub filled : (vs bs : List ℕ) (s : Stand) → Laid most (rowView src c) (rowShown src c) vs₀ bs₀ (c .rows) vs bs s → Filled most src c vs₀ bs₀ vs bs
   filled vs bs s l = record { views = l .views; bytes = l .bytes }
 
 -- ---- the table
@@ -75,8 +75,8 @@ module _ (most : ℕ) (view : ℕ → List ℕ) (n : ℕ) (ss₀ ns₀ : List �
       let f = w .few in
       rw e (record { small = omega arith; count = omega arith })
 
-  module _ (ss ns : List ℕ) (s : Stand) (l : Tabled most view ss₀ ns₀ n ss ns s) where
-    pub listed-none : s .base + s .fill ≡ 0 → Listed most view n ss₀ ns₀ ss ns
+  module _ (ss ns : List ℕ) (s : Stand) (l : CutTabled most view ss₀ ns₀ n ss ns s) where
+    pub listed-none : s .base + s .fill ≡ 0 → CutListed most view n ss₀ ns₀ ss ns
     listed-none z =
         let q = lens-none most view n (rw (l .stand) at z) in
         record { starts = rw (q .0) (rw (q .1) at (l .starts)); lens = rw (q .0) (rw (q .1) at (l .lens)) }
@@ -89,7 +89,7 @@ module _ (most : ℕ) (view : ℕ → List ℕ) (n : ℕ) (ss₀ ns₀ : List �
         let q = w .lens (omega (arith, z)) in
         rw e (p, q)
 
-    pub listed-some : (s .base + s .fill ≡ 0 → ⊥) → Listed most view n ss₀ ns₀ (set ss (s .closed) (s .base)) (set ns (s .closed) (s .fill))
+    pub listed-some : (s .base + s .fill ≡ 0 → ⊥) → CutListed most view n ss₀ ns₀ (set ss (s .closed) (s .base)) (set ns (s .closed) (s .fill))
     unfolding standOf
     listed-some z =
         let i = last-in z in
@@ -102,15 +102,15 @@ module _ (most : ℕ) (view : ℕ → List ℕ) (n : ℕ) (ss₀ ns₀ : List �
 
 -- ---- no block, and one
 
-module _ (most : ℕ) (view : ℕ → List ℕ) (n b t : ℕ) (ss ns : List ℕ) (q : Counted most view n b t) where
+module _ (most : ℕ) (view : ℕ → List ℕ) (n b t : ℕ) (ss ns : List ℕ) (q : CutCounted most view n b t) where
   abbrev of-long : List ℕ
   of-long = longOf (λ r. lengthOf (view r)) (λ r. lengthOf (view r)) n
 
-  pub listed-empty : b ≡ 0 → Listed most view n ss ns ss ns
+  pub listed-empty : b ≡ 0 → CutListed most view n ss ns ss ns
   unfolding startsFrom
   listed-empty e = by (cutLens most of-long) refl (sym (q .blocks) ∙ e)
     where
-      by : (l : List ℕ) → cutLens most of-long ≡ l → length l ≡ 0 → Listed most view n ss ns ss ns
+      by : (l : List ℕ) → cutLens most of-long ≡ l → length l ≡ 0 → CutListed most view n ss ns ss ns
       by [] f h = record { starts = rw f; lens = rw f }
       by (x ∷ l) f h = absurd (omega arith)
 
@@ -124,11 +124,11 @@ module _ (most : ℕ) (view : ℕ → List ℕ) (n b t : ℕ) (ss ns : List ℕ)
       by-cases (ℕ-discrete (s .base + s .fill) 0) (λ z. absurd (some z)) (λ z. let p = w .starts (omega arith) in let r = w .lens (omega arith) in
       (omega arith, omega arith))
 
-  pub listed-one : TableIn (standAt most view n) ss ns → b ≡ 1 → Listed most view n ss ns (set ss 0 0) (set ns 0 t)
+  pub listed-one : TableIn (standAt most view n) ss ns → b ≡ 1 → CutListed most view n ss ns (set ss 0 0) (set ns 0 t)
   unfolding startsFrom
   listed-one w e = by (cutLens most of-long) refl (sym (q .blocks) ∙ e)
     where
-      by : (l : List ℕ) → cutLens most of-long ≡ l → length l ≡ 1 → Listed most view n ss ns (set ss 0 0) (set ns 0 t)
+      by : (l : List ℕ) → cutLens most of-long ≡ l → length l ≡ 1 → CutListed most view n ss ns (set ss 0 0) (set ns 0 t)
       by [] f h = absurd (omega arith)
       by (x ∷ []) f h =
           let i = table-one w e in

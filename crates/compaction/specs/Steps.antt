@@ -38,8 +38,8 @@ abbrev pub addStand : ℕ → Stand → Stand
 addStand n s = stand (s .closed) (s .base) (s .fill + n)
 
 -- a row of n bytes
-unfoldable pub stepOf : ℕ → ℕ → Stand → Stand
-stepOf most n s = ifLe n shortMost s (addStand n (roomStand most n s))
+unfoldable pub rowStep : ℕ → ℕ → Stand → Stand
+rowStep most n s = ifLe n shortMost s (addStand n (roomStand most n s))
 
 -- a number written where a block is closed
 unfoldable pub closedAt : ℕ → ℕ → Stand → ℕ → List ℕ → List ℕ
@@ -51,7 +51,7 @@ pub record Small (n : ℕ) (s : Stand) : Type 0 where
   pub blocks : s .closed < 2 ^ 32
 
 -- a column whose numbers fit, its null map aside
-pub record Source (vs ss ns : List ℕ) (c : Column) : Type 0 where
+pub record SourceFits (vs ss ns : List ℕ) (c : Column) : Type 0 where
   pub rows : c .first + c .rows ≤ rowLimit
   pub views : viewSize * (c .first + c .rows) ≤ length vs
   pub starts : c .blocks ≤ length ss
@@ -110,7 +110,7 @@ unfoldable pub recordedAt : ℕ → ℕ → Stand → ℕ → List ℕ → List 
 recordedAt most n s x l = ifLe n shortMost l (closedAt most n s x l)
 
 pub record TablePut (most n : ℕ) (s : Stand) (ss ns : List ℕ) (t : Stand) (ss′ ns′ : List ℕ) : Type 0 where
-  pub next : t ≡ stepOf most n s
+  pub next : t ≡ rowStep most n s
   pub starts : ss′ ≡ recordedAt most n s (s .base) ss
   pub lens : ns′ ≡ recordedAt most n s (s .fill) ns
 
@@ -124,7 +124,7 @@ pub record Laid (most : ℕ) (view value : ℕ → List ℕ) (vs₀ bs₀ : List
   pub bytes : bs ≡ front bs₀ (flat (longOf (λ r. lengthOf (view r)) value k))
   pub stand : s ≡ standAt most view k
 
-pub record Tabled (most : ℕ) (view : ℕ → List ℕ) (ss₀ ns₀ : List ℕ) (k : ℕ) (ss ns : List ℕ) (s : Stand) : Type 0 where
+pub record CutTabled (most : ℕ) (view : ℕ → List ℕ) (ss₀ ns₀ : List ℕ) (k : ℕ) (ss ns : List ℕ) (s : Stand) : Type 0 where
   pub starts : ss ≡ front ss₀ (startsFrom 0 (cutAll most (longOf (λ r. lengthOf (view r)) (λ r. lengthOf (view r)) k) .done))
   pub lens : ns ≡ front ns₀ (cutAll most (longOf (λ r. lengthOf (view r)) (λ r. lengthOf (view r)) k) .done)
   pub stand : s ≡ standAt most view k
@@ -148,7 +148,7 @@ pub record TableIn (s : Stand) (ss ns : List ℕ) : Type 0 where
   pub few : Few s
 
 -- what the first pass counted
-pub record Counted (most : ℕ) (view : ℕ → List ℕ) (n b t : ℕ) : Type 0 where
+pub record CutCounted (most : ℕ) (view : ℕ → List ℕ) (n b t : ℕ) : Type 0 where
   pub blocks : b ≡ length (cutLens most (longOf (λ r. lengthOf (view r)) (λ r. lengthOf (view r)) n))
   pub bytes : t ≡ total (longOf (λ r. lengthOf (view r)) (λ r. lengthOf (view r)) n)
 
@@ -157,7 +157,7 @@ pub record Filled (most : ℕ) (l : Lent) (c : Column) (vs bs vs′ bs′ : List
   pub views : vs′ ≡ putRows vs (newView most l c) (c .rows)
   pub bytes : bs′ ≡ front bs (newBytes l c)
 
-pub record Listed (most : ℕ) (view : ℕ → List ℕ) (n : ℕ) (ss ns ss′ ns′ : List ℕ) : Type 0 where
+pub record CutListed (most : ℕ) (view : ℕ → List ℕ) (n : ℕ) (ss ns ss′ ns′ : List ℕ) : Type 0 where
   pub starts : ss′ ≡ front ss (startsFrom 0 (cutLens most (longOf (λ r. lengthOf (view r)) (λ r. lengthOf (view r)) n)))
   pub lens : ns′ ≡ front ns (cutLens most (longOf (λ r. lengthOf (view r)) (λ r. lengthOf (view r)) n))
 
@@ -168,7 +168,7 @@ blocksBy s = pick (eqb (s .base + s .fill) 0) 0 (s .closed + 1)
 -- the verdict before anything is written, and the new blocks where it accepts
 pub record Judges (most : ℕ) (l : Lent) (c : Column) (out : Lent) (j : Judged) : Type 0 where
   pub verdict : j .why ≡ whyCompact most l c out
-  pub count : isAccepted (whyCompact most l c out) ≡ true → Counted most (rowView l c) (c .rows) (j .blocks) (j .bytes)
+  pub count : isAccepted (whyCompact most l c out) ≡ true → CutCounted most (rowView l c) (c .rows) (j .blocks) (j .bytes)
 
 -- the map written anew, if there is one
 unfoldable pub mapBy : List ℕ → List ℕ → Bool → ℕ → ℕ → List ℕ

@@ -11,7 +11,7 @@ ghost use Rattle.column.specs.Room.{bare, InRoom};
 ghost use Rattle.column.specs.Meaning.{blocksOf, shown};
 ghost use Rattle.column.specs.Truth.{reachable};
 ghost use Rattle.compaction.specs.Compact.{Wrote};
-ghost use Rattle.compaction.specs.Steps.{stepOf, roomStand, addStand, closedAt, standAt, Small, Source, PlaceIn, LongIn, RowIn, LongPut, RowPut, TablePut, WriteIn, TableIn, Counted, Filled, Listed, Measured, blocksBy, Judges, mapBy};
+ghost use Rattle.compaction.specs.Steps.{rowStep, roomStand, addStand, closedAt, standAt, Small, SourceFits, PlaceIn, LongIn, RowIn, LongPut, RowPut, TablePut, WriteIn, TableIn, CutCounted, Filled, CutListed, Measured, blocksBy, Judges, mapBy};
 use bounds::Refusal;
 use bounds::Why;
 use column::Column;
@@ -45,7 +45,7 @@ pub struct Survey {
 // The walk after a row of `n` bytes.
 pub fn step(s: Stand, n: usize, most: usize) -> Stand
     requires { ⌜ Small n s ⌝ }
-    ensures { λ r. ⌜ r ≡ stepOf most n s ⌝ }
+    ensures { λ r. ⌜ r ≡ rowStep most n s ⌝ }
 {
     if n <= views::SHORT_MOST {
         return s;
@@ -76,7 +76,7 @@ fn measure<'a>(
     c: Column,
     most: usize,
 ) -> Survey
-    requires { ⌜ Source (now views) (now starts) (now lens) c ⌝ }
+    requires { ⌜ SourceFits (now views) (now starts) (now lens) c ⌝ }
     ensures { λ r. ⌜ Measured most (bare (now (views .entry)) (now (bytes .entry)) (now (starts .entry)) (now (lens .entry))) c r ⌝ }
 {
     let first = c.first;
@@ -237,7 +237,7 @@ fn write<'a>(
     newviews: &mut [u8],
     newbytes: &mut [u8],
 )
-    requires { ⌜ Source (now views) (now starts) (now lens) c ⌝ }
+    requires { ⌜ SourceFits (now views) (now starts) (now lens) c ⌝ }
     requires { ⌜ WriteIn most (bare (now views) (now bytes) (now starts) (now lens)) c (now newviews) (now newbytes) ⌝ }
     ensures { λ _. ⌜ Filled most (bare (now (views .entry)) (now (bytes .entry)) (now (starts .entry)) (now (lens .entry))) c (now (newviews .entry))
         (now (newbytes .entry)) (now (newviews .exit)) (now (newbytes .exit)) ⌝ }
@@ -298,7 +298,7 @@ fn write_table(
 )
     requires { ⌜ (viewSize * (first + rows) ≤ length (now views)) × (first + rows ≤ rowLimit)
         × (TableIn (standAt most (λ r. viewAt (now views) (first + r)) rows) (now newstarts) (now newlens)) ⌝ }
-    ensures { λ _. ⌜ Listed most (λ r. viewAt (now (views .entry)) (first + r)) rows (now (newstarts .entry)) (now (newlens .entry))
+    ensures { λ _. ⌜ CutListed most (λ r. viewAt (now (views .entry)) (first + r)) rows (now (newstarts .entry)) (now (newlens .entry))
         (now (newstarts .exit)) (now (newlens .exit)) ⌝ }
 {
     let mut s = Stand {
@@ -340,8 +340,8 @@ fn put_table(
 )
     requires { ⌜ (viewSize * (first + rows) ≤ length (now views)) × (first + rows ≤ rowLimit)
         × (TableIn (standAt most (λ r. viewAt (now views) (first + r)) rows) (now newstarts) (now newlens)) ⌝ }
-    requires { ⌜ Counted most (λ r. viewAt (now views) (first + r)) rows blocks total ⌝ }
-    ensures { λ _. ⌜ Listed most (λ r. viewAt (now (views .entry)) (first + r)) rows (now (newstarts .entry)) (now (newlens .entry))
+    requires { ⌜ CutCounted most (λ r. viewAt (now views) (first + r)) rows blocks total ⌝ }
+    ensures { λ _. ⌜ CutListed most (λ r. viewAt (now (views .entry)) (first + r)) rows (now (newstarts .entry)) (now (newlens .entry))
         (now (newstarts .exit)) (now (newlens .exit)) ⌝ }
 {
     if blocks == 0 {

@@ -1,2 +1,4 @@
+pub mod PlanLaws
+pub mod TurnLaws
 pub mod Again
 pub mod Only

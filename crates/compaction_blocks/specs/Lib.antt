@@ -1,4 +1,2 @@
 pub mod Compacts
 pub mod Turns
-pub mod TurnLaws
-pub mod PlanLaws

@@ -20,7 +20,7 @@ use Rattle.column.specs.Spot.{spotOf, bytesAt}
 use Rattle.column.specs.Truth.{reachBy, isInside, trueAt}
 use Rattle.compaction.specs.declared.Stand.{Stand}
 use Rattle.compaction.specs.Compact.{whyCompact, compactOf}
-use Rattle.compaction.specs.Steps.{stand, standAt, Source, RowIn, RowPut, WriteIn, TableIn, Filled, Listed}
+use Rattle.compaction.specs.Steps.{stand, standAt, SourceFits, RowIn, RowPut, WriteIn, TableIn, Filled, CutListed}
 use Rattle.compaction_blocks.specs.declared.Pass.{Pass}
 use Rattle.compaction_blocks.specs.declared.Plan.{Plan}
 use Rattle.compaction_blocks.specs.declared.Sizes.{Sizes}
@@ -48,8 +48,8 @@ valueBy views bytes blocks at b = bytesAt views bytes (spotBy views bytes blocks
 
 -- ---- where a record goes: at the table's count, nowhere
 
-unfoldable pub placeOf : ℕ → ℕ → Stand → ℕ → ℕ
-placeOf most n s count = ifLe n shortMost count (ifLe (s .fill + n) most count (s .closed))
+unfoldable pub recordPlace : ℕ → ℕ → Stand → ℕ → ℕ
+recordPlace most n s count = ifLe n shortMost count (ifLe (s .fill + n) most count (s .closed))
 
 unfoldable pub lastPlace : Stand → ℕ → ℕ
 lastPlace s count = pick (eqb (s .base + s .fill) 0) count (s .closed)
@@ -59,11 +59,15 @@ lastPlace s count = pick (eqb (s .base + s .fill) 0) count (s .closed)
 abbrev pub begun : ℕ → ℕ → Pass
 begun left count = record { left = left; row = 0; stand = stand 0 0 0; count = count; at = count; block = block 0 0 }
 
-abbrev pub anew : Column → ℕ → Column
-anew c blocks = record { first = 0; rows = c .rows; blocks = blocks; kind = c .kind; mapped = c .mapped }
+abbrev pub compactedColumn : Column → ℕ → Column
+compactedColumn c blocks = record { first = 0; rows = c .rows; blocks = blocks; kind = c .kind; mapped = c .mapped }
 
 unfoldable pub planOf : Why → Column → ℕ → ℕ → Plan
-planOf w c blocks count = record { outcome = record { why = w; column = ifAccepted w (anew c blocks) c }; first = begun (ifAccepted w (c .rows + 1) 0) count }
+planOf w c blocks count = record {
+  outcome = record { why = w; column = ifAccepted w (compactedColumn c blocks) c };
+  first = begun (ifAccepted w
+      (c .rows + 1) 0) count;
+}
 
 -- the sizes of buffers
 pub record Sized (to : Sizes) (out : Lent) : Type 0 where
@@ -102,7 +106,7 @@ pub record TurnIn (views bytes : List ℕ) (c : Column) (b : Block) (vs bs : Lis
 pub record More (most : ℕ) (views bytes : List ℕ) (c : Column) (b : Block) (p : Pass) (vs bs : List ℕ) (r : Pass) (vs′ bs′ : List ℕ) : Type 0 where
   pub left : r .left + 1 ≡ p .left
   pub row : r .row ≡ p .row + 1
-  pub at : r .at ≡ placeOf most (lengthOf (viewAt views (c .first + p .row))) (p .stand) (p .count)
+  pub at : r .at ≡ recordPlace most (lengthOf (viewAt views (c .first + p .row))) (p .stand) (p .count)
   pub put : RowPut most (p .row) (viewAt views (c .first + p .row)) (valueBy views bytes (c .blocks) (c .first + p .row) b) (p .stand) vs bs
       (r .stand) vs′ bs′
 
@@ -124,7 +128,7 @@ pub record Turned (most : ℕ) (views bytes : List ℕ) (c : Column) (b : Block)
 -- what the pass is given, where there is a turn
 pub record Starts (most : ℕ) (views bytes : List ℕ) (table : List Block) (c : Column) (vs bs : List ℕ) (t : List Block) (p : Pass) : Type 0 where
   pub begin : p ≡ begun (c .rows + 1) (length t)
-  pub reads : Source views (startsIn table) (lensIn table) c
+  pub reads : SourceFits views (startsIn table) (lensIn table) c
   pub writes : WriteIn most (sourceOf views bytes table) c vs bs
   pub lists : TableIn (standAt most (rowView (sourceOf views bytes table) c) (c .rows)) (startsIn t) (lensIn t)
 
@@ -132,7 +136,7 @@ pub record Starts (most : ℕ) (views bytes : List ℕ) (table : List Block) (c 
 pub record Written (most : ℕ) (views bytes : List ℕ) (table : List Block) (c : Column) (vs bs : List ℕ) (t : List Block) (vs′ bs′ : List ℕ)
     (t′ : List Block) : Type 0 where
   pub filled : Filled most (sourceOf views bytes table) c vs bs vs′ bs′
-  pub listed : Listed most (rowView (sourceOf views bytes table) c) (c .rows) (startsIn t) (lensIn t) (startsIn t′) (lensIn t′)
+  pub listed : CutListed most (rowView (sourceOf views bytes table) c) (c .rows) (startsIn t) (lensIn t) (startsIn t′) (lensIn t′)
 
 pub record Same (vs bs : List ℕ) (t : List Block) (vs′ bs′ : List ℕ) (t′ : List Block) : Type 0 where
   pub views : vs′ ≡ vs

@@ -14,7 +14,7 @@ ghost use Rattle.column.specs.Lent.{Lent, buffers, mapRoom, block, fits};
 ghost use Rattle.compaction.specs.Steps.{standAt, RowIn, RowPut, Small, mapBy};
 ghost use Rattle.laying.specs.Rooms.{whyRooms};
 ghost use Rattle.compaction_blocks.specs.Compacts.{Compacts};
-ghost use Rattle.compaction_blocks.specs.Turns.{placeOf, lastPlace, valueBy, reachedBy, begun, planOf, Sized, Judging, Plans, MapIn, TurnIn, Turned, Starts, Writes};
+ghost use Rattle.compaction_blocks.specs.Turns.{recordPlace, lastPlace, valueBy, reachedBy, begun, planOf, Sized, Judging, Plans, MapIn, TurnIn, Turned, Starts, Writes};
 use bounds::Refusal;
 use bounds::Why;
 use column::Block;
@@ -207,7 +207,7 @@ fn judge_with<'a>(
 // Where a row of n bytes has the record of the current block written: nowhere unless it closes it.
 fn place(s: Stand, n: usize, most: usize, count: usize) -> usize
     requires { ⌜ s .fill + n < 2 ^ 64 ⌝ }
-    ensures { λ r. ⌜ r ≡ placeOf most n s count ⌝ }
+    ensures { λ r. ⌜ r ≡ recordPlace most n s count ⌝ }
 {
     let closed = s.closed;
     let fill = s.fill;

@@ -1,1 +1,3 @@
+pub mod SameLaws
+pub mod CompareLaws
 pub mod Only

@@ -4,7 +4,7 @@ use mathlib.Core.List.{List}
 use Prim.Native.Nat.{ℕ, compare, Ordering, Ordering·lt, Ordering·eq, Ordering·gt}
 use lib.Dec.{leb}
 use Rattle.basis.specs.Pick.{pick}
-use Rattle.order.specs.Order.{thenby, cmp}
+use Rattle.order.specs.Order.{thenby, cmp, ordering}
 use Rattle.order.specs.declared.Order.{Order}
 use Rattle.order.specs.declared.Order.the-variants.{Less, Equal, Greater}
 use Rattle.bounds.specs.Refusals.{numberOf}
@@ -19,6 +19,8 @@ use Rattle.comparison.specs.declared.Verdict.{Verdict}
 use Rattle.comparison.specs.declared.Verdict.the-variants.{Accepted, Left, Right}
 use Rattle.comparison.specs.declared.Compared.{Compared}
 use Rattle.comparison.specs.declared.Compared.the-variants as compared
+use Rattle.comparison.specs.declared.ByViews.{ByViews}
+use Rattle.comparison.specs.declared.ByViews.the-variants as by
 
 -- two short values by their twelve bytes then length; otherwise four bytes, then whole values
 unfoldable pub compareViews : List (List ℕ) → List ℕ → List (List ℕ) → List ℕ → Ordering
@@ -26,6 +28,11 @@ compareViews bs v cs w =
     pick (isShort (lengthOf v) && isShort (lengthOf w))
     (thenby (cmp (bodyOf v) (bodyOf w)) (compare (lengthOf v) (lengthOf w)))
     (thenby (cmp (prefixOf v) (prefixOf w)) (cmp (shown bs v) (shown cs w)))
+
+-- what two views tell, by the order of the whole values
+abbrev pub toldBy : ByViews → Ordering → Ordering
+toldBy (by.Is o) whole = ordering o
+toldBy by.Whole whole = whole
 
 -- each number is tried on the left column first: the lower number, and of equal ones the left column's
 unfoldable pub bothOf : Why → Why → Verdict

@@ -2,5 +2,3 @@ pub mod Compare
 pub mod Same
 pub mod Readable
 pub mod VerdictLaws
-pub mod SameLaws
-pub mod CompareLaws

@@ -13,7 +13,7 @@ use Rattle.column.specs.Room.{bare, InRoom}
 use Rattle.column.specs.Truth.{reachable, reachableAt}
 
 -- the view of one row
-pub record Readable (views bytes starts lens : List ℕ) (blocks at : ℕ) : Type 0 where
+pub record ViewReadable (views bytes starts lens : List ℕ) (blocks at : ℕ) : Type 0 where
   pub room : InRoom views starts lens blocks at
   pub reach : reachable (bare views bytes starts lens) blocks (viewAt views at) ≡ true
 

@@ -9,7 +9,7 @@ use Rattle.bounds.specs.declared.Why.{Why}
 use Rattle.bounds.specs.declared.Why.the-variants as why
 use Rattle.column.specs.declared.Column.{Column}
 use Rattle.column.specs.Lent.{Lent, fits}
-use Rattle.column.specs.Meaning.{shownAt, validAt}
+use Rattle.column.specs.Meaning.{shownAt, rowValid}
 use Rattle.column.specs.Truth.{reachableAt, lowest}
 use Rattle.comparison.specs.declared.Verdict.{Verdict}
 use Rattle.comparison.specs.declared.Verdict.the-variants.{Accepted, Left, Right}
@@ -30,7 +30,7 @@ alike true b = b
 alike false b = not b
 
 unfoldable pub sameRow : Lent → Column → Lent → Column → ℕ → Bool
-sameRow l c m d r = alike (validAt l c r) (validAt m d r) && same (shownAt l c r) (shownAt m d r)
+sameRow l c m d r = alike (rowValid l c r) (rowValid m d r) && same (shownAt l c r) (shownAt m d r)
 
 unfoldable pub sameRows : Lent → Column → Lent → Column → ℕ → Bool
 sameRows l c m d zero = true

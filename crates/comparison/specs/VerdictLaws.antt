@@ -2,7 +2,7 @@
 use mathlib.Core.Path.{_≡_, refl, sym, ap, ap₂, _∙_}
 use mathlib.Core.Bool.{Bool, true, false, _&&_}
 use mathlib.Core.List.{List}
-use Prim.Native.Nat.{ℕ, _+_, _-_, _*_, _≤_, _<_, Ordering}
+use Prim.Native.Nat.{ℕ, _+_, _-_, _*_, _≤_, _<_, compare, Ordering, Ordering·eq}
 use native.Mathlib.Omega.{arith}
 use borrow.Author.Tests.{le-leb, lt-leb}
 use lib.Dec.{leb}
@@ -13,9 +13,11 @@ use Rattle.bounds.specs.Refusals.{numberOf, isAccepted}
 use Rattle.bounds.specs.declared.Refusal.{Refusal}
 use Rattle.bounds.specs.declared.Why.{Why}
 use Rattle.bounds.specs.declared.Why.the-variants as why
+use Rattle.words.specs.Words.{Bytes, beAt}
 use Rattle.order.specs.declared.Order.{Order}
 use Rattle.order.specs.declared.Order.the-variants.{Less, Equal, Greater}
 use Rattle.order.specs.Order.{ordering, thenby, cmp, shortOrder}
+use Rattle.order.specs.WordOrder.{four-first, four-short}
 use Rattle.views.specs.View.{viewSize, viewAt, lengthOf, bodyOf, prefixOf, isShort}
 use Rattle.views.specs.ViewLaws.{length-view}
 use Rattle.column.specs.declared.Block.{Block}
@@ -31,8 +33,10 @@ use Rattle.reading.specs.WalkLaws.{value-shown}
 use Rattle.comparison.specs.declared.Compared.the-variants as compared
 use Rattle.comparison.specs.declared.Verdict.{Verdict}
 use Rattle.comparison.specs.declared.Verdict.the-variants.{Accepted, Left, Right}
-use Rattle.comparison.specs.Readable.{Readable, Comparable}
-use Rattle.comparison.specs.Compare.{bothOf, whyCompare, compareViews, orderOf, compareRows}
+use Rattle.comparison.specs.Readable.{ViewReadable, Comparable}
+use Rattle.comparison.specs.declared.ByViews.{ByViews}
+use Rattle.comparison.specs.declared.ByViews.the-variants as by
+use Rattle.comparison.specs.Compare.{bothOf, whyCompare, compareViews, toldBy, orderOf, compareRows}
 
 -- the verdict, where each row's is known
 module _ (w v : Why) where
@@ -110,17 +114,36 @@ view-part views at = part-is views (16 * at) 16 (16 * at) 16 refl refl
 
 -- the sides of a comparison by views, their lengths as the code has them
 module _ (bs : List (List ℕ)) (v : List ℕ) (cs : List (List ℕ)) (w : List ℕ) (h : length v ≡ viewSize) (g : length w ≡ viewSize)
-    (a b : ℕ) (ea : a ≡ lengthOf (viewAt v 0)) (eb : b ≡ lengthOf (viewAt w 0)) (t : Bool) (et : t ≡ isShort a && isShort b) (o : Ordering) where
+    (a b : ℕ) (ea : a ≡ lengthOf (viewAt v 0)) (eb : b ≡ lengthOf (viewAt w 0)) (t : Bool) (et : t ≡ isShort a && isShort b) where
   shorts : isShort (lengthOf v) && isShort (lengthOf w) ≡ t
   shorts = sym (et ∙ ap₂ (λ (m n : ℕ). isShort m && isShort n) (ea ∙ ap lengthOf (view-zero v h)) (eb ∙ ap lengthOf (view-zero w g)))
 
-  pub short-order : t ≡ true → o ≡ shortOrder v w → o ≡ compareViews bs v cs w
+  pub short-order : (o : Ordering) → t ≡ true → o ≡ shortOrder v w → o ≡ compareViews bs v cs w
   unfolding compareViews bodyOf lengthOf shortOrder
-  short-order e p = rw (shorts ∙ e) p
+  short-order o e p = rw (shorts ∙ e) p
 
-  pub prefix-order : t ≡ false → o ≡ cmp (take 4 (drop 4 v)) (take 4 (drop 4 w)) → thenby o (cmp (shown bs v) (shown cs w)) ≡ compareViews bs v cs w
+  pub whole-order : t ≡ false → cmp (take 4 (drop 4 v)) (take 4 (drop 4 w)) ≡ Ordering·eq → cmp (shown bs v) (shown cs w) ≡ compareViews bs v cs w
   unfolding compareViews prefixOf
-  prefix-order e p = rw (shorts ∙ e, p)
+  whole-order e p = rw (shorts ∙ e, p)
+
+-- four bytes that differ decide, whether both are short or not
+pub four-order : (bs : List (List ℕ)) (v : List ℕ) (cs : List (List ℕ)) (w : List ℕ) → Bytes v → Bytes w → length v ≡ viewSize → length w ≡ viewSize
+    → (p q : ℕ) → p ≡ beAt v 4 4 → q ≡ beAt w 4 4 → (p ≡ q → ⊥) → compare p q ≡ compareViews bs v cs w
+unfolding compareViews bodyOf lengthOf prefixOf shortOrder
+four-order bs v cs w bv bw h g p q ep eq ne = by (isShort (lengthOf v) && isShort (lengthOf w))
+  where
+    by : (t : Bool) → compare p q ≡ pick t (thenby (cmp (bodyOf v) (bodyOf w)) (compare (lengthOf v) (lengthOf w)))
+        (thenby (cmp (prefixOf v) (prefixOf w)) (cmp (shown bs v) (shown cs w)))
+    by true = four-short v w bv bw h g p q ep eq ne
+    by false = four-first v w bv bw h g p q ep eq ne (cmp (shown bs v) (shown cs w))
+
+-- what two views tell, in hand
+module _ (t : ByViews) (whole r : Ordering) (is : toldBy t whole ≡ r) where
+  pub told-is : (o : Order) → t ≡ by.Is o → ordering o ≡ r
+  told-is o e = rw e at is
+
+  pub told-whole : t ≡ by.Whole → whole ≡ r
+  told-whole e = rw e at is
 
 -- two rows whose comparison is accepted, by their views and values
 module _ (views bytes nulls : List ℕ) (table : List Block) (c : Column) (i : ℕ) (views2 bytes2 nulls2 : List ℕ) (table2 : List Block) (d : Column) (j : ℕ)
@@ -154,7 +177,7 @@ module _ (views bytes nulls : List ℕ) (table : List Block) (c : Column) (i : �
 
 -- a row of a column that fits, whose view is reachable, can be read
 pub readable : (views bytes starts lens nulls : List ℕ) (c : Column) (r : ℕ) → fits (lent views bytes starts lens nulls) c ≡ true → r < c .rows
-    → reachableAt (lent views bytes starts lens nulls) c r ≡ true → Readable views bytes starts lens (c .blocks) (c .first + r)
+    → reachableAt (lent views bytes starts lens nulls) c r ≡ true → ViewReadable views bytes starts lens (c .blocks) (c .first + r)
 readable views bytes starts lens nulls c r h l e =
     record {
       room = fits-row views bytes starts lens nulls c r h l;

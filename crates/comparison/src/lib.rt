@@ -4,7 +4,7 @@ ghost use mathlib.Core.Bool.{_&&_};
 ghost use mathlib.Core.List.{List};
 ghost use Prim.Native.Nat.{ℕ, _+_, _*_, _≤_};
 ghost use lib.ListN.{length};
-ghost use Rattle.order.specs.Order.{ordering};
+ghost use Rattle.order.specs.Order.{ordering, cmp};
 ghost use Rattle.views.specs.View.{viewSize, viewAt, isShort};
 ghost use Rattle.column.specs.declared.Block.{Block};
 ghost use Rattle.column.specs.Lent.{lentOf, buffers};
@@ -13,7 +13,7 @@ ghost use Rattle.column.specs.Meaning.{shown};
 ghost use Rattle.column.specs.Spot.{Sees};
 ghost use Rattle.column.specs.Truth.{reachableAt, lowest};
 ghost use Rattle.bounds.specs.declared.Why.the-variants.{Accepted};
-ghost use Rattle.comparison.specs.Compare.{bothOf, compareViews, compareRows};
+ghost use Rattle.comparison.specs.Compare.{bothOf, compareViews, toldBy, compareRows};
 ghost use Rattle.comparison.specs.Same.{whyAll, sameRow, sameRows, sameColumn};
 ghost use Rattle.comparison.specs.Readable.{RowsInRoom, Comparable, AllComparable};
 use bounds::Refusal;
@@ -33,6 +33,12 @@ pub enum Compared {
     Is(Order),
     Left(Refusal),
     Right(Refusal),
+}
+
+// What two views tell of the order of what they show: the order, or that the whole values decide.
+pub enum ByViews {
+    Is(Order),
+    Whole,
 }
 
 pub enum Sameness {
@@ -89,7 +95,24 @@ fn view_of<'a>(views: &'a [u8], c: Column, row: usize) -> &'a [u8]
     &views[a..e]
 }
 
-// Two views and the values that they show: short ones by their twelve bytes, then length; otherwise four bytes, then whole values.
+// Two views: their four bytes first, which decide between short ones too; then, of short ones, the other eight and the lengths.
+pub fn by_views(v: &[u8], w: &[u8]) -> ByViews
+    requires { ⌜ (length (now v) ≡ viewSize) × (length (now w) ≡ viewSize) ⌝ }
+    ensures { λ r. ⌜ ((bs cs : List (List ℕ)) → toldBy r (cmp (shown bs (now (v .entry))) (shown cs (now (w .entry))))
+        ≡ compareViews bs (now (v .entry)) cs (now (w .entry))) ⌝ }
+{
+    let p = words::be32(v, 4);
+    let q = words::be32(w, 4);
+    if p != q {
+        return ByViews::Is(order::by_word(p, q));
+    }
+    if both_short(views::view_len(v, 0), views::view_len(w, 0)) {
+        return ByViews::Is(order::cmp_short(v, w));
+    }
+    ByViews::Whole
+}
+
+// Two views and the values that they show.
 fn order_with<'a>(v: &'a [u8], x: &'a [u8], w: &'a [u8], y: &'a [u8]) -> Order
     ensures { λ r. ⌜ ((bs cs : List (List ℕ)) → length (now (v .entry)) ≡ viewSize → length (now (w .entry)) ≡ viewSize
         → now (x .entry) ≡ shown bs (now (v .entry)) → now (y .entry) ≡ shown cs (now (w .entry)) → ordering r ≡ compareViews bs (now (v .entry)) cs
@@ -101,14 +124,10 @@ fn order_with<'a>(v: &'a [u8], x: &'a [u8], w: &'a [u8], y: &'a [u8]) -> Order
     if w.len() != views::VIEW_SIZE {
         return Order::Equal;
     }
-    if both_short(views::view_len(v, 0), views::view_len(w, 0)) {
-        return order::cmp_short(v, w);
-    }
-    let o = order::cmp_prefix(v, w);
-    match o {
-        Order::Less => return Order::Less,
-        Order::Greater => return Order::Greater,
-        Order::Equal => return order::cmp(x, y),
+    let told = by_views(v, w);
+    match told {
+        ByViews::Is(o) => return o,
+        ByViews::Whole => return order::cmp(x, y),
     }
 }
 

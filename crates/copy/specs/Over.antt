@@ -7,5 +7,5 @@ abbrev pub over : List ℕ → List ℕ → List ℕ
 over s d = s ++ drop (length s) d
 
 -- d with its first o elements those of s
-unfoldable pub copied : List ℕ → List ℕ → ℕ → List ℕ
-copied d s o = take o s ++ drop o d
+unfoldable pub copiedUpTo : List ℕ → List ℕ → ℕ → List ℕ
+copiedUpTo d s o = take o s ++ drop o d

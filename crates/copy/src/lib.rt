@@ -35,13 +35,25 @@ fn four_words(src: &[u8], dst: &mut [u8])
     words::put64(dst, n - 8, w);
 }
 
-// 32 to 64 bytes: the first 32 and the last 32.
+// The half that 16 to 64 bytes are copied by, twice.
+fn half(n: usize) -> usize
+    requires { ⌜ (16 ≤ n) × (n ≤ 64) ⌝ }
+    ensures { λ r. ⌜ (16 ≤ r) × (r ≤ 32) × (r ≤ n) × (n ≤ r + r) ⌝ }
+{
+    if n <= 32 {
+        return 16;
+    }
+    32
+}
+
+// 16 to 64 bytes: the first half and the last, which may overlap. No branch asks which half it is: lengths in no order cost no more than one length.
 fn two_halves(src: &[u8], dst: &mut [u8])
-    requires { ⌜ (32 ≤ length (now src)) × (length (now src) ≤ 64) × (length (now src) ≤ length (now dst)) ⌝ }
+    requires { ⌜ (16 ≤ length (now src)) × (length (now src) ≤ 64) × (length (now src) ≤ length (now dst)) ⌝ }
     ensures { λ _. ⌜ now (dst .exit) ≡ over (now (src .entry)) (now (dst .entry)) ⌝ }
 {
-    let o = src.len() - 32;
-    four_words(&src[0..32], dst);
+    let m = half(src.len());
+    let o = src.len() - m;
+    four_words(&src[0..m], dst);
     four_words(&src[o..], &mut dst[o..]);
 }
 
@@ -57,8 +69,8 @@ fn chunk(src: &[u8], dst: &mut [u8])
     bytes::copy(&buf[..n], dst);
 }
 
-// Any length, a chunk a turn.
-fn chunks(src: &[u8], dst: &mut [u8])
+// Any length, a chunk a turn: for bytes that are many.
+pub fn chunks(src: &[u8], dst: &mut [u8])
     requires { ⌜ length (now src) ≤ length (now dst) ⌝ }
     ensures { λ _. ⌜ now (dst .exit) ≡ over (now (src .entry)) (now (dst .entry)) ⌝ }
 {
@@ -81,8 +93,6 @@ pub fn copy(src: &[u8], dst: &mut [u8])
         chunk(src, dst);
     } else if n <= 16 {
         two_words(src, dst);
-    } else if n <= 32 {
-        four_words(src, dst);
     } else if n <= 64 {
         two_halves(src, dst);
     } else if n <= CHUNK {

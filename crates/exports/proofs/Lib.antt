@@ -1,3 +1,4 @@
-pub mod Laws
+pub mod PartLaws
+pub mod PlaceLaws
 pub mod Only
 pub mod PartsOnly

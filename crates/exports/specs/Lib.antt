@@ -1,4 +1,2 @@
 pub mod Exported
 pub mod Parts
-pub mod PlaceLaws
-pub mod PartLaws

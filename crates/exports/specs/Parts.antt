@@ -9,10 +9,10 @@ use Rattle.reading.specs.declared.Bit.{Bit}
 use Rattle.reading.specs.declared.Bit.the-variants as bit
 use Rattle.reading.specs.declared.Sliced.{Sliced}
 use Rattle.reading.specs.declared.Sliced.the-variants as sliced
-use Rattle.exports.specs.declared.Counted.{Counted}
+use Rattle.numbers.specs.declared.Counted.{Counted}
 use Rattle.exports.specs.declared.Run.{Run}
-use Rattle.exports.specs.declared.Place.{Place}
-use Rattle.exports.specs.Exported.{place}
+use Rattle.numbers.specs.declared.Place.{Place}
+use Rattle.numbers.specs.Numbers.{place}
 
 abbrev pub counted : ℕ → ℕ → Counted
 counted refused n = record { refused = refused; number = n }

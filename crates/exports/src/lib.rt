@@ -6,40 +6,16 @@ ghost use Rattle.reading.specs.Reading.{whyValue};
 ghost use Rattle.validity.specs.Check.{whyInvalid};
 ghost use Rattle.comparison.specs.Compare.{compareRows};
 ghost use Rattle.comparison.specs.Same.{sameColumn};
-ghost use Rattle.exports.specs.Exported.{columnOf, whyTold, orderNumber, comparedNumber, sameTold, placeOf, placeTold, placeAt};
-use bounds::Why;
-use column::Column;
-use column::Kind;
-use column::Spot;
+ghost use Rattle.numbers.specs.Numbers.{columnFrom, whyTold};
+ghost use Rattle.exports.specs.Exported.{orderNumber, comparedNumber, sameTold, placeTold, placeAt};
 use comparison::Compared;
 use comparison::Sameness;
+use numbers::Place;
+use numbers::Told;
 use order::Order;
 use reading::Located;
 
 pub mod parts;
-
-// An answer beside the row that refusal 11 names.
-#[repr(C)]
-pub struct Told {
-    pub number: u64,
-    pub row: usize,
-}
-
-// A part of a buffer: the refusal's number or 0, which buffer (0 the views, 1 the data), from where, how many bytes.
-#[repr(C)]
-pub struct Place {
-    pub refused: u64,
-    pub buffer: u64,
-    pub offset: usize,
-    pub len: usize,
-}
-
-// A number: the refusal's number or 0, and what was asked for.
-#[repr(C)]
-pub struct Counted {
-    pub refused: u64,
-    pub number: usize,
-}
 
 // Rows of a column: the refusal's number or 0, the first row, how many.
 #[repr(C)]
@@ -47,45 +23,6 @@ pub struct Run {
     pub refused: u64,
     pub first: usize,
     pub rows: usize,
-}
-
-// A column by its five numbers.
-pub fn column_of(l: &[usize; 5]) -> Column
-    ensures { λ r. ⌜ r ≡ columnOf (now (l .entry)) ⌝ }
-{
-    let first = l[0];
-    let rows = l[1];
-    let blocks = l[2];
-    let kind = l[3];
-    let map = l[4];
-    if kind == 0 {
-        return Column {
-            first,
-            rows,
-            blocks,
-            kind: Kind::Binary,
-            mapped: map != 0,
-        };
-    }
-    Column {
-        first,
-        rows,
-        blocks,
-        kind: Kind::Text,
-        mapped: map != 0,
-    }
-}
-
-pub fn told_why(w: Why) -> Told
-    ensures { λ r. ⌜ r ≡ whyTold w ⌝ }
-{
-    match w {
-        Why::Accepted => return Told { number: 0, row: 0 },
-        Why::Refused(r) => return Told {
-            number: bounds::number(r) as u64,
-            row: bounds::row(r),
-        },
-    }
 }
 
 fn order_number(o: Order) -> u64
@@ -137,7 +74,7 @@ pub extern "C" fn tambuyeel_why_value(
     row: usize,
 ) -> u8
     ensures { λ r. ⌜ r ≡ whyNumber (whyValue (lentOf (views .entry) (bytes .entry) (starts .entry) (lens .entry) (nulls .entry))
-        (columnOf (now (column .entry))) row) ⌝ }
+        (columnFrom (now (column .entry))) row) ⌝ }
 {
     bounds::why_number(reading::why_value(
         views,
@@ -145,7 +82,7 @@ pub extern "C" fn tambuyeel_why_value(
         starts,
         lens,
         nulls,
-        column_of(column),
+        numbers::column_of(column),
         row,
     ))
 }
@@ -161,9 +98,16 @@ pub extern "C" fn tambuyeel_check<'a>(
     column: &[usize; 5],
 ) -> Told
     ensures { λ r. ⌜ r ≡ whyTold (whyInvalid (lentOf (views .entry) (bytes .entry) (starts .entry) (lens .entry) (nulls .entry))
-        (columnOf (now (column .entry)))) ⌝ }
+        (columnFrom (now (column .entry)))) ⌝ }
 {
-    told_why(validity::check(views, bytes, starts, lens, nulls, column_of(column)))
+    numbers::told_why(validity::check(
+        views,
+        bytes,
+        starts,
+        lens,
+        nulls,
+        numbers::column_of(column),
+    ))
 }
 
 // Row i of one column against row j of another: 0 below, 1 equal, 2 above; refused, the number and 16 on the left, 32 on the right.
@@ -185,11 +129,11 @@ pub extern "C" fn tambuyeel_compare<'a>(
     j: usize,
 ) -> u64
     ensures { λ r. ⌜ r ≡ comparedNumber (compareRows (lentOf (views .entry) (bytes .entry) (starts .entry) (lens .entry) (nulls .entry))
-        (columnOf (now (column .entry))) i (lentOf (views2 .entry) (bytes2 .entry) (starts2 .entry) (lens2 .entry) (nulls2 .entry))
-        (columnOf (now (column2 .entry))) j) ⌝ }
+        (columnFrom (now (column .entry))) i (lentOf (views2 .entry) (bytes2 .entry) (starts2 .entry) (lens2 .entry) (nulls2 .entry))
+        (columnFrom (now (column2 .entry))) j) ⌝ }
 {
-    let c = column_of(column);
-    let d = column_of(column2);
+    let c = numbers::column_of(column);
+    let d = numbers::column_of(column2);
     compared_number(comparison::compare(
         views,
         bytes,
@@ -225,11 +169,11 @@ pub extern "C" fn tambuyeel_same_column<'a>(
     column2: &[usize; 5],
 ) -> Told
     ensures { λ r. ⌜ r ≡ sameTold (sameColumn (lentOf (views .entry) (bytes .entry) (starts .entry) (lens .entry) (nulls .entry))
-        (columnOf (now (column .entry))) (lentOf (views2 .entry) (bytes2 .entry) (starts2 .entry) (lens2 .entry) (nulls2 .entry))
-        (columnOf (now (column2 .entry)))) ⌝ }
+        (columnFrom (now (column .entry))) (lentOf (views2 .entry) (bytes2 .entry) (starts2 .entry) (lens2 .entry) (nulls2 .entry))
+        (columnFrom (now (column2 .entry)))) ⌝ }
 {
-    let c = column_of(column);
-    let d = column_of(column2);
+    let c = numbers::column_of(column);
+    let d = numbers::column_of(column2);
     told_same(comparison::same_column(
         views,
         bytes,
@@ -246,42 +190,11 @@ pub extern "C" fn tambuyeel_same_column<'a>(
     ))
 }
 
-fn place_of(s: Spot) -> Place
-    ensures { λ r. ⌜ r ≡ placeOf s ⌝ }
-{
-    match s {
-        Spot::View(a, n) => return Place {
-            refused: 0,
-            buffer: 0,
-            offset: a,
-            len: n,
-        },
-        Spot::Data(a, n) => return Place {
-            refused: 0,
-            buffer: 1,
-            offset: a,
-            len: n,
-        },
-        Spot::NoBlock => return Place {
-            refused: 0,
-            buffer: 0,
-            offset: 0,
-            len: 0,
-        },
-        Spot::Outside => return Place {
-            refused: 0,
-            buffer: 0,
-            offset: 0,
-            len: 0,
-        },
-    }
-}
-
 pub fn told_place(l: Located) -> Place
     ensures { λ r. ⌜ r ≡ placeTold l ⌝ }
 {
     match l {
-        Located::At(s) => return place_of(s),
+        Located::At(s) => return numbers::place_of(s),
         Located::Refused(r) => return Place {
             refused: bounds::number(r) as u64,
             buffer: 0,
@@ -302,8 +215,8 @@ pub extern "C" fn tambuyeel_value(
     column: &[usize; 5],
     row: usize,
 ) -> Place
-    ensures { λ r. ⌜ r ≡ placeAt (lentOf (views .entry) (bytes .entry) (starts .entry) (lens .entry) (nulls .entry)) (columnOf (now (column .entry))) row ⌝ }
+    ensures { λ r. ⌜ r ≡ placeAt (lentOf (views .entry) (bytes .entry) (starts .entry) (lens .entry) (nulls .entry)) (columnFrom (now (column .entry))) row ⌝ }
 {
-    let c = column_of(column);
+    let c = numbers::column_of(column);
     told_place(reading::locate(views, bytes, starts, lens, nulls, c, row))
 }

@@ -2,11 +2,12 @@
 ghost use mathlib.Core.Path.{_≡_};
 ghost use Rattle.column.specs.Lent.{lentOf};
 ghost use Rattle.reading.specs.Reading as spec;
-ghost use Rattle.exports.specs.Exported.{columnOf, placeAt};
+ghost use Rattle.numbers.specs.Numbers.{columnFrom};
+ghost use Rattle.exports.specs.Exported.{placeAt};
 ghost use Rattle.exports.specs.Parts.{numberTold, bitTold, sliceTold, prefixPlace, suffixPlace};
-use crate::Counted;
-use crate::Place;
 use crate::Run;
+use numbers::Counted;
+use numbers::Place;
 use reading::Bit;
 use reading::Number;
 use reading::Sliced;
@@ -74,7 +75,7 @@ pub extern "C" fn tambuyeel_length(
     row: usize,
 ) -> Counted
     ensures { λ r. ⌜ r ≡ numberTold (spec.lengthAt (lentOf (views .entry) (bytes .entry) (starts .entry) (lens .entry) (nulls .entry))
-        (columnOf (now (column .entry))) row) ⌝ }
+        (columnFrom (now (column .entry))) row) ⌝ }
 {
     told_number(reading::length(
         views,
@@ -82,7 +83,7 @@ pub extern "C" fn tambuyeel_length(
         starts,
         lens,
         nulls,
-        crate::column_of(column),
+        numbers::column_of(column),
         row,
     ))
 }
@@ -99,7 +100,7 @@ pub extern "C" fn tambuyeel_null_bit(
     row: usize,
 ) -> Counted
     ensures { λ r. ⌜ r ≡ bitTold (spec.bitOf (lentOf (views .entry) (bytes .entry) (starts .entry) (lens .entry) (nulls .entry))
-        (columnOf (now (column .entry))) row) ⌝ }
+        (columnFrom (now (column .entry))) row) ⌝ }
 {
     told_bit(reading::null_bit(
         views,
@@ -107,7 +108,7 @@ pub extern "C" fn tambuyeel_null_bit(
         starts,
         lens,
         nulls,
-        crate::column_of(column),
+        numbers::column_of(column),
         row,
     ))
 }
@@ -125,7 +126,7 @@ pub extern "C" fn tambuyeel_null_run(
     count: usize,
 ) -> Counted
     ensures { λ r. ⌜ r ≡ numberTold (spec.nullRun (lentOf (views .entry) (bytes .entry) (starts .entry) (lens .entry) (nulls .entry))
-        (columnOf (now (column .entry))) start count) ⌝ }
+        (columnFrom (now (column .entry))) start count) ⌝ }
 {
     told_number(reading::null_run(
         views,
@@ -133,7 +134,7 @@ pub extern "C" fn tambuyeel_null_run(
         starts,
         lens,
         nulls,
-        crate::column_of(column),
+        numbers::column_of(column),
         start,
         count,
     ))
@@ -152,7 +153,7 @@ pub extern "C" fn tambuyeel_slice(
     count: usize,
 ) -> Run
     ensures { λ r. ⌜ r ≡ sliceTold (spec.slice (lentOf (views .entry) (bytes .entry) (starts .entry) (lens .entry) (nulls .entry))
-        (columnOf (now (column .entry))) start count) ⌝ }
+        (columnFrom (now (column .entry))) start count) ⌝ }
 {
     told_slice(reading::slice(
         views,
@@ -160,7 +161,7 @@ pub extern "C" fn tambuyeel_slice(
         starts,
         lens,
         nulls,
-        crate::column_of(column),
+        numbers::column_of(column),
         start,
         count,
     ))
@@ -177,7 +178,7 @@ pub extern "C" fn tambuyeel_total_bytes_len(
     column: &[usize; 5],
 ) -> Counted
     ensures { λ r. ⌜ r ≡ numberTold (spec.totalBytesLen (lentOf (views .entry) (bytes .entry) (starts .entry) (lens .entry) (nulls .entry))
-        (columnOf (now (column .entry)))) ⌝ }
+        (columnFrom (now (column .entry)))) ⌝ }
 {
     told_number(reading::total_bytes_len(
         views,
@@ -185,7 +186,7 @@ pub extern "C" fn tambuyeel_total_bytes_len(
         starts,
         lens,
         nulls,
-        crate::column_of(column),
+        numbers::column_of(column),
     ))
 }
 
@@ -200,7 +201,7 @@ pub extern "C" fn tambuyeel_total_buffer_bytes_used(
     column: &[usize; 5],
 ) -> Counted
     ensures { λ r. ⌜ r ≡ numberTold (spec.totalBufferBytesUsed (lentOf (views .entry) (bytes .entry) (starts .entry) (lens .entry) (nulls .entry))
-        (columnOf (now (column .entry)))) ⌝ }
+        (columnFrom (now (column .entry)))) ⌝ }
 {
     told_number(reading::total_buffer_bytes_used(
         views,
@@ -208,7 +209,7 @@ pub extern "C" fn tambuyeel_total_buffer_bytes_used(
         starts,
         lens,
         nulls,
-        crate::column_of(column),
+        numbers::column_of(column),
     ))
 }
 
@@ -225,9 +226,9 @@ pub extern "C" fn tambuyeel_prefix(
     n: usize,
 ) -> Place
     ensures { λ r. ⌜ r ≡ prefixPlace n (placeAt (lentOf (views .entry) (bytes .entry) (starts .entry) (lens .entry) (nulls .entry))
-        (columnOf (now (column .entry))) row) ⌝ }
+        (columnFrom (now (column .entry))) row) ⌝ }
 {
-    let c = crate::column_of(column);
+    let c = numbers::column_of(column);
     let p = crate::told_place(reading::locate(views, bytes, starts, lens, nulls, c, row));
     if p.len < n {
         return Place {
@@ -258,9 +259,9 @@ pub extern "C" fn tambuyeel_suffix(
     n: usize,
 ) -> Place
     ensures { λ r. ⌜ r ≡ suffixPlace n (placeAt (lentOf (views .entry) (bytes .entry) (starts .entry) (lens .entry) (nulls .entry))
-        (columnOf (now (column .entry))) row) ⌝ }
+        (columnFrom (now (column .entry))) row) ⌝ }
 {
-    let c = crate::column_of(column);
+    let c = numbers::column_of(column);
     let p = crate::told_place(reading::locate(views, bytes, starts, lens, nulls, c, row));
     if p.len < n {
         return Place {

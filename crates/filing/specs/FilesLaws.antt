@@ -26,28 +26,29 @@ unfoldable pub firsts : List Block → List ℕ
 firsts [] = []
 firsts (b ∷ t) = b .start ∷ firsts t
 
-unfoldable pub sizes : List Block → List ℕ
-sizes [] = []
-sizes (b ∷ t) = b .len ∷ sizes t
+unfoldable pub lensAll : List Block → List ℕ
+lensAll [] = []
+lensAll (b ∷ t) = b .len ∷ lensAll t
 
 firsts-length : (t : List Block) → length t ≡ length (firsts t)
 unfolding firsts
 firsts-length [] = refl
 firsts-length (b ∷ t) = ap suc (firsts-length t)
 
-sizes-length : (t : List Block) → length t ≡ length (sizes t)
-unfolding sizes
+sizes-length : (t : List Block) → length t ≡ length (lensAll t)
+unfolding lensAll
 sizes-length [] = refl
 sizes-length (b ∷ t) = ap suc (sizes-length t)
 
-table-is : (t : List Block) → tableOf (firsts t) (sizes t) ≡ t
-unfolding tableOf firsts sizes
+table-is : (t : List Block) → tableOf (firsts t) (lensAll t) ≡ t
+unfolding tableOf firsts lensAll
 table-is [] = refl
 table-is (b ∷ t) = ap (λ (u : List Block). block (b .start) (b .len) ∷ u) (table-is t)
 
 -- what holds of each table that is lent as two slices of a length holds of each table of that length
-pub over : (P : List Block → Type 0) (n : ℕ) → ((ss ns : List ℕ) → n ≡ length ss → n ≡ length ns → P (tableOf ss ns)) → (t : List Block) → n ≡ length t → P t
-over P n f t e = subst P (table-is t) (f (firsts t) (sizes t) (e ∙ firsts-length t) (e ∙ sizes-length t))
+pub over-tables : (P : List Block → Type 0) (n : ℕ) → ((ss ns : List ℕ) → n ≡ length ss → n ≡ length ns → P (tableOf ss ns)) → (t : List Block)
+    → n ≡ length t → P t
+over-tables P n f t e = subst P (table-is t) (f (firsts t) (lensAll t) (e ∙ firsts-length t) (e ∙ sizes-length t))
 
 -- two slices of a length that hold nothing
 abbrev pub blank : ℕ → List ℕ

@@ -25,7 +25,7 @@ use Rattle.builder.specs.Does.{answer}
 use Rattle.appending.specs.Laying.{blockMore}
 use Rattle.appending.specs.BlockLaws.{Blocked, blocked, does-not-block, does-block}
 use Rattle.filing.specs.Files.{Files, filed, openTable}
-use Rattle.filing.specs.FilesLaws.{over, blank, blank-length, blocks-room, files-of, table-no, table-yes, set-none, recorded-table, fits-by, table-length}
+use Rattle.filing.specs.FilesLaws.{over-tables, blank, blank-length, blocks-room, files-of, table-no, table-yes, set-none, recorded-table, fits-by, table-length}
 
 -- a block's verdict, by the lengths of what is lent and the count of the records
 unfoldable pub blockBy : State → ℕ → ℕ → ℕ → ℕ → ℕ → ℕ → Why
@@ -74,7 +74,7 @@ module _ (s : State) (vs bs ms ps x : List ℕ) (n : ℕ) (w : Why) (ew : w ≡ 
   pub laid-no : isAccepted w ≡ false → (b c : Block) → (t : List Block) → n ≡ length t
       → Files (λ d. whyBlock d x) (putBlock x) s vs bs t ms ps (answer w s) vs bs (set (set t n b) n c) ms ps × (0 ≡ blockNumber (filed s vs bs t ms ps) x)
   laid-no h b c =
-      over (λ t. Files (λ d. whyBlock d x) (putBlock x) s vs bs t ms ps (answer w s) vs bs (set (set t n b) n c) ms ps
+      over-tables (λ t. Files (λ d. whyBlock d x) (putBlock x) s vs bs t ms ps (answer w s) vs bs (set (set t n b) n c) ms ps
       × (0 ≡ blockNumber (filed s vs bs t ms ps) x)) n (λ ss ns es en.
       let e = verdict ss ns es en in
       let d = does-not-block s vs bs ss ns ms ps x w e h in
@@ -92,7 +92,7 @@ module _ (s : State) (vs bs ms ps x : List ℕ) (n : ℕ) (w : Why) (ew : w ≡ 
       × (t .blocks ≡ blockNumber (filed s vs bs z ms ps) x)
   unfolding putBlock layBlock complete closed
   laid-yes t {u} {bs′} k b h et eu eb ek =
-      over (λ z. Files (λ d. whyBlock d x) (putBlock x) s vs bs z ms ps (answer Accepted u) vs bs′ (set (set z k b) (t .blocks)
+      over-tables (λ z. Files (λ d. whyBlock d x) (putBlock x) s vs bs z ms ps (answer Accepted u) vs bs′ (set (set z k b) (t .blocks)
       (block (t .base) (length x))) ms ps × (t .blocks ≡ blockNumber (filed s vs bs z ms ps) x)) n (λ ss ns es en.
       let e = verdict ss ns es en in
       let d = does-block s vs bs ss ns ms ps x w t e h et refl refl eu eb refl refl in

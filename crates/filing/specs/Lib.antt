@@ -1,6 +1,5 @@
 pub mod Files
 pub mod Rows
 pub mod FilesLaws
-pub mod EndLaws
 pub mod RowLaws
 pub mod LayLaws

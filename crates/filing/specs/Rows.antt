@@ -8,9 +8,9 @@ use Rattle.column.specs.declared.Block.{Block}
 use Rattle.column.specs.Lent.{block}
 
 -- b is the record of the block that the view of row r names, in a table of two number slices
-abbrev pub Names : List ℕ → ℕ → Block → List ℕ → List ℕ → Type 0
-Names vs r b ss ns = (k : ℕ) → k ≡ blockOf (viewAt vs r) → b ≡ block (getD ss k 0) (getD ns k 0)
+abbrev pub RowNames : List ℕ → ℕ → Block → List ℕ → List ℕ → Type 0
+RowNames vs r b ss ns = (k : ℕ) → k ≡ blockOf (viewAt vs r) → b ≡ block (getD ss k 0) (getD ns k 0)
 
 -- in a table of records; where the views have no such row, nothing is said
-abbrev pub Sees : List ℕ → ℕ → Block → List Block → Type 0
-Sees vs r b t = 16 * r + 16 ≤ length vs → b ≡ getD t (blockOf (viewAt vs r)) (block 0 0)
+abbrev pub RowSees : List ℕ → ℕ → Block → List Block → Type 0
+RowSees vs r b t = 16 * r + 16 ≤ length vs → b ≡ getD t (blockOf (viewAt vs r)) (block 0 0)

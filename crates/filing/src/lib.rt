@@ -16,7 +16,7 @@ ghost use Rattle.builder.specs.Others.{whyBlock, putBlock, blockNumber};
 ghost use Rattle.builder.specs.Values.{whyNull, putNull};
 ghost use Rattle.builder.specs.Finish.{whyFinish, copied, finished, finishColumn};
 ghost use Rattle.filing.specs.Files.{Files, filed, openTable};
-ghost use Rattle.filing.specs.Rows.{Names, Sees};
+ghost use Rattle.filing.specs.Rows.{RowNames, RowSees};
 ghost use Rattle.finishing.specs.Places.{spotRow, getPoints};
 ghost use Rattle.column.specs.Spot.{Lies};
 ghost use denote.Ref.{ptr};
@@ -289,7 +289,7 @@ pub fn record_or(s: State, k: usize, b: Block) -> Block
 fn spot_row(s: State, views: &[u8], bytes: &[u8], r: usize, b: Block) -> Spot
     requires { ⌜ (16 * s .rows ≤ length (now views)) × (r < s .rows) × (allBlocks s ≤ blockLimit) ⌝ }
     ensures { λ x. ⌜ Lies (now (views .entry)) (now (bytes .entry)) x × ((ss ns : List ℕ) → Ready s (now (views .entry)) ss ns
-        → Names (now (views .entry)) r b ss ns → x ≡ spotRow s (bare (now (views .entry)) (now (bytes .entry)) ss ns) r) ⌝ }
+        → RowNames (now (views .entry)) r b ss ns → x ≡ spotRow s (bare (now (views .entry)) (now (bytes .entry)) ss ns) r) ⌝ }
 {
     let d = record_or(s, views::view_block(views, r), b);
     column::spot_with(views, r, builder::all_blocks(s), column::room_of(bytes), d)
@@ -306,7 +306,7 @@ fn why_with<'a>(
     places: &[u32],
     r: usize,
 ) -> Why
-    ensures { λ w. ⌜ ((t : List Block) → count ≡ length t → Sees (now (views .entry)) r b t
+    ensures { λ w. ⌜ ((t : List Block) → count ≡ length t → RowSees (now (views .entry)) r b t
         → w ≡ whyGet (filed s (now (views .entry)) (now (bytes .entry)) t (now (nulls .entry)) (now (places .entry))) r) ⌝ }
 {
     let rows = s.rows;
@@ -340,7 +340,7 @@ fn get_with<'a>(
     places: &[u32],
     r: usize,
 ) -> &'a [u8]
-    ensures { λ y. ⌜ ((t : List Block) → count ≡ length t → Sees (now (views .entry)) r b t
+    ensures { λ y. ⌜ ((t : List Block) → count ≡ length t → RowSees (now (views .entry)) r b t
         → (now y ≡ getValue (filed s (now (views .entry)) (now (bytes .entry)) t (now (nulls .entry)) (now (places .entry))) r)
         × (ptr y ≡ getPoints (filed s (now (views .entry)) (now (bytes .entry)) t (now (nulls .entry)) (now (places .entry))) r (ptr (views .entry))
         (ptr (bytes .entry)))) ⌝ }

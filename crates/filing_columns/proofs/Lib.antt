@@ -1,2 +1,4 @@
+pub mod ViewsLaws
+pub mod ColumnsLaws
 mod Asks
 pub mod Only

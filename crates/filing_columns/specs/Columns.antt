@@ -33,7 +33,7 @@ pub record Lays (bytes first base : ℕ) (src : List ℕ) (u : List Block) (n : 
   pub lie : allInData (buffers [] src u []) n ≡ true
 
 -- w is the verdict on a column by the builder's kind, and m, where it is valid, how many bytes its blocks have together
-pub record Source (s : State) (views bytes : List ℕ) (u : List Block) (nulls : List ℕ) (c : Column) (w : Why) (m : ℕ) : Type 0 where
+pub record SourceJudged (s : State) (views bytes : List ℕ) (u : List Block) (nulls : List ℕ) (c : Column) (w : Why) (m : ℕ) : Type 0 where
   pub why : w ≡ whyInvalid (buffers views bytes u nulls) (byKind (s .kind) c)
   pub total : isAccepted w ≡ true → m ≡ sizes (buffers views bytes u nulls) (c .blocks)
 
@@ -41,10 +41,10 @@ pub record Source (s : State) (views bytes : List ℕ) (u : List Block) (nulls :
 pub record Sourced (s : State) (views nulls : List ℕ) (c : Column) (w : Why) (m : ℕ) : Type 0 where
   pub bytes : List ℕ
   pub table : List Block
-  pub source : Source s views bytes table nulls c w m
+  pub source : SourceJudged s views bytes table nulls c w m
 
 -- the numbers that an accepted column keeps to: those of the builder with it, and its own
-pub record Roomy (s : State) (views nulls srcviews srcnulls : List ℕ) (c : Column) (m : ℕ) : Type 0 where
+pub record ColumnRoomy (s : State) (views nulls srcviews srcnulls : List ℕ) (c : Column) (m : ℕ) : Type 0 where
   pub blocks : allBlocks s + c .blocks ≤ blockLimit
   pub small : used s + m ≤ byteLimit
   pub rows : s .rows + c .rows ≤ rowLimit

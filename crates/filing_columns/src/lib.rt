@@ -14,7 +14,7 @@ ghost use Rattle.column.specs.Meaning.{bytesOf};
 ghost use Rattle.builder.specs.Others.{blockBytes, sizes, whyColumn, putColumn, whyView, putView};
 ghost use Rattle.appending.specs.Laying.{putData, putRecords, byKind};
 ghost use Rattle.filing.specs.Files.{Files};
-ghost use Rattle.filing_columns.specs.Columns.{Counts, Lays, Source, Sourced, columnBy, stays, Says};
+ghost use Rattle.filing_columns.specs.Columns.{Counts, Lays, SourceJudged, Sourced, columnBy, stays, Says};
 use bounds::Refusal;
 use bounds::Why;
 use builder::Answer;
@@ -138,7 +138,7 @@ fn column_with<'a>(
 ) -> Poured
     requires { ⌜ Sourced s (now srcviews) (now srcnulls) c w m ⌝ }
     ensures { λ r. ⌜ ((bs ps cb : List ℕ) (t u : List Block) → bytes ≡ length bs → places ≡ length ps → count ≡ length t
-        → Source s (now (srcviews .entry)) cb u (now (srcnulls .entry)) c w m
+        → SourceJudged s (now (srcviews .entry)) cb u (now (srcnulls .entry)) c w m
         → Lays (length bs) (r .first) (r .base) cb u (r .blocks)
         × Files (whyColumn (buffers (now (srcviews .entry)) cb u (now (srcnulls .entry))) c)
         (putColumn (buffers (now (srcviews .entry)) cb u (now (srcnulls .entry))) c) s (now (views .entry)) bs t (now (nulls .entry)) ps

@@ -1,1 +1,3 @@
+pub mod ValueLaws
+pub mod QuestLaws
 pub mod Only

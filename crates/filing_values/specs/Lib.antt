@@ -1,3 +1,1 @@
 pub mod Quests
-pub mod QuestLaws
-pub mod ValueLaws

@@ -17,7 +17,7 @@ ghost use Rattle.builder.specs.Rooms.{Ready, showsRow};
 ghost use Rattle.builder.specs.RoomLaws.{Judged};
 ghost use Rattle.builder.specs.Values.{foundBy, found, whyStore, whyValues, putValue, putValues};
 ghost use Rattle.filing.specs.Files.{Files, filed, openTable};
-ghost use Rattle.filing.specs.Rows.{Names};
+ghost use Rattle.filing.specs.Rows.{RowNames};
 ghost use Rattle.filing_values.specs.Quests.{Sound, Searched, Going, rest};
 ghost use Rattle.filing.specs.FilesLaws.{blank};
 use bounds::Why;
@@ -325,7 +325,7 @@ fn asks(views: &[u8], places: &[u32], place: usize) -> usize
 // Whether row r is there and shows x, which is long, by the record that the table has of its block.
 fn shows_with(s: State, views: &[u8], bytes: &[u8], x: &[u8], r: usize, b: Block) -> bool
     ensures { λ y. ⌜ ((ss ns : List ℕ) → Ready s (now (views .entry)) ss ns → allBlocks s ≤ blockLimit → 12 < length (now (x .entry))
-        → (r < s .rows → Names (now (views .entry)) r b ss ns)
+        → (r < s .rows → RowNames (now (views .entry)) r b ss ns)
         → y ≡ showsRow s (bare (now (views .entry)) (now (bytes .entry)) ss ns) (now (x .entry)) r) ⌝ }
 {
     let blocks = s.blocks;
@@ -367,7 +367,7 @@ fn turn(s: State, views: &[u8], bytes: &[u8], places: &[u32], x: &[u8], q: Quest
         × ((ss ns : List ℕ) → Ready s (now (views .entry)) ss ns → allBlocks s ≤ blockLimit → 12 < length (now (x .entry))
         → q .place < length (now (places .entry)) → 0 < q .left
         → ((getD (now (places .entry)) (q .place) 0 ≡ 0 → ⊥) → getD (now (places .entry)) (q .place) 0 - 1 < s .rows
-        → Names (now (views .entry)) (getD (now (places .entry)) (q .place) 0 - 1) b ss ns)
+        → RowNames (now (views .entry)) (getD (now (places .entry)) (q .place) 0 - 1) b ss ns)
         → (rest (now (places .entry)) (showsRow s (bare (now (views .entry)) (now (bytes .entry)) ss ns) (now (x .entry))) r
         ≡ rest (now (places .entry)) (showsRow s (bare (now (views .entry)) (now (bytes .entry)) ss ns) (now (x .entry))) q)
         × (0 < r .left → r .place < length (now (places .entry)))) ⌝ }

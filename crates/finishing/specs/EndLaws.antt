@@ -16,12 +16,12 @@ use Rattle.builder.specs.declared.Settings.{Settings}
 use Rattle.builder.specs.declared.State.{State}
 use Rattle.builder.specs.declared.Answer.{Answer}
 use Rattle.growth.specs.Growing.{fitsGrowth}
-use Rattle.column.specs.Lent.{Lent, blockRoom, dataRoom}
+use Rattle.column.specs.Lent.{blockRoom, dataRoom}
 use Rattle.column.specs.FitLaws.{and-no}
-use Rattle.builder.specs.State.{Builder, builder, held, rowsRoom, allBlocks, used, fitsRooms, fitsState, recorded}
+use Rattle.builder.specs.State.{Builder, held, rowsRoom, allBlocks, used, fitsRooms, fitsState, recorded}
 use Rattle.builder.specs.Rooms.{openStarts, openLens}
 use Rattle.builder.specs.Get.{columnOf}
-use Rattle.builder.specs.Start.{lawfulSizes, lawfulMerging, isOff, emptyState, started, unstarted, cleared, whyStart, startState, startPlaces, start}
+use Rattle.builder.specs.Start.{lawfulSizes, lawfulMerging, isOff, emptyState, started, unstarted, cleared, whyStart, startState, startPlaces}
 use Rattle.builder.specs.Finish.{whyFinish, copied, finished, noColumn, finishColumn}
 use Rattle.builder.specs.Does.{Does, answer}
 use Rattle.builder.specs.DoesLaws.{does-no, does-put}
@@ -80,12 +80,7 @@ module _ (t : Settings) (ps : List ℕ) (st : State) where
   unfolding whyStart startState startPlaces refuse
   start-yes ps′ h e p = (rw h (ap (answer Accepted) e), rw h p)
 
--- what start makes is the builder of the definitions
-pub start-is : (t : Settings) (l : Lent) (ps : List ℕ) → whyStart t ≡ Accepted → builder (startState t) l (startPlaces t ps) ≡ start t l ps
-unfolding startState startPlaces start
-start-is t l ps e = rw e
-
--- a refused start answers a state that no buffers fit
+-- a refused start answers a state that no buffers fit (an end theorem: nothing cites it)
 pub unstarted-never : (t : Settings) (vs bs ss ns ms ps : List ℕ) → fitsState (held (unstarted t) vs bs ss ns ms ps) ≡ false
 unfolding fitsState fitsRooms fitsGrowth
 unstarted-never t vs bs ss ns ms ps =

@@ -60,7 +60,7 @@ next-above k = by (ltb (sizeAfter k) largestSize) refl
     by false e = omega (arith, next-stays (sizeAfter k) (ltb-false (sizeAfter k) largestSize e), ltb-false)
 
 -- a size that fits is the size after some number of steps, and each such size fits
-pub record Reached (s : ℕ) : Type 0 where
+pub record SizeReached (s : ℕ) : Type 0 where
   pub steps : ℕ
   pub is : s ≡ sizeAfter steps
 
@@ -83,12 +83,12 @@ reached-at (suc n) k s h e = by (ltb k n) refl (λ q. reached-at n k s q e)
         let last : k ≡ n = omega (arith, ltb-false k n q) in
         or-right (reachedIn n s) (eqb s (sizeAfter n)) (eq-eqb s (sizeAfter n) (e ∙ ap sizeAfter last))
 
-pub reached-is : (n s : ℕ) → reachedIn n s ≡ true → Reached s
+pub reached-is : (n s : ℕ) → reachedIn n s ≡ true → SizeReached s
 unfolding reachedIn
 reached-is zero s e = absurd (true≢false (sym e))
 reached-is (suc n) s e = by (reachedIn n s) refl (λ q. reached-is n s q)
   where
-    by : (t : Bool) → reachedIn n s ≡ t → (reachedIn n s ≡ true → Reached s) → Reached s
+    by : (t : Bool) → reachedIn n s ≡ t → (reachedIn n s ≡ true → SizeReached s) → SizeReached s
     by true q ih = ih q
     by false q ih = record { steps = n; is = eqb-true s (sizeAfter n) (rw q at e) }
 
@@ -106,7 +106,7 @@ fits-reached k = by (ltb k 9) refl
         let h : k ≡ 8 + (k - 8) = omega (arith, ltb-false k 9 e) in
         reached-at 9 8 (sizeAfter k) (omega arith) (ap sizeAfter h ∙ size-stays (k - 8) ∙ sym (size-stays 0))
 
-pub fits-size-is : (s : ℕ) → fitsSize s ≡ true → Reached s
+pub fits-size-is : (s : ℕ) → fitsSize s ≡ true → SizeReached s
 unfolding fitsSize
 fits-size-is s e = reached-is 9 s e
 

@@ -8,7 +8,7 @@ use borrow.Author.Tests.{lt-ltb, le-ltb}
 use lib.ListN.{length}
 use Rattle.basis.specs.Pick.{pick}
 use Rattle.words.specs.Words.{wordAt}
-use Rattle.hash.specs.Hash.{mixed, keyA, keyB, laneA, laneB, fold, closed, hashOf}
+use Rattle.hash.specs.Hash.{mixed, keyA, keyB, laneA, laneB, fold, hashClosed, hashOf}
 
 -- (ah 2^32 + al) (bh 2^32 + bl)
 expand : (ah al bh bl k : ℕ) → (ah * k + al) * (bh * k + bl) ≡ ah * bh * (k * k) + (al * bh + ah * bl) * k + al * bl
@@ -46,7 +46,7 @@ module _ (s : List ℕ) (i : ℕ) (m : i ≡ 16 * (i / 16)) where
   pub close : (h l h₂ g₂ h₃ : ℕ) → i < length s → length s - i ≤ 16 → h ≡ laneA s (i / 16)
       → g₂ ≡ pick (ltb 8 (length s - i)) (mixed (laneB s (i / 16)) (wordAt s i 8) keyB) (laneB s (i / 16))
       → l ≡ wordAt s (length s - 8) 8 → h₂ ≡ mixed h l keyA → h₃ ≡ mixed h₂ g₂ keyA → fold h₃ ≡ hashOf s
-  unfolding hashOf closed
+  unfolding hashOf hashClosed
   close h l h₂ g₂ h₃ p q eh eg el e₂ e₃ =
       let k : (length s - 1) / 16 ≡ i / 16 = omega arith in
       rw (k, ← m, e₃, e₂, el, eh, eg)

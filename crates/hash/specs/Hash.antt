@@ -35,8 +35,8 @@ abbrev pub fold : ℕ → ℕ
 fold x = bitXor x (x / 2 ^ 32)
 
 -- what is left after k times sixteen bytes, at most sixteen
-unfoldable pub closed : List ℕ → ℕ → ℕ
-closed s k =
+unfoldable pub hashClosed : List ℕ → ℕ → ℕ
+hashClosed s k =
     fold
     (mixed
     (mixed (laneA s k) (wordAt s (length s - 8) 8) keyA)
@@ -44,4 +44,4 @@ closed s k =
     keyA)
 
 unfoldable pub hashOf : List ℕ → ℕ
-hashOf s = closed s ((length s - 1) / 16)
+hashOf s = hashClosed s ((length s - 1) / 16)

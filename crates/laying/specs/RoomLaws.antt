@@ -20,7 +20,7 @@ abbrev anew : Bool → ℕ → ℕ → Column
 anew mapped rows blocks = record { first = 0; rows = rows; blocks = blocks; kind = Binary; mapped = mapped }
 
 -- what an accepted verdict tells
-pub record Roomy (rs ks ds rows blocks bytes : ℕ) : Type 0 where
+pub record RoomGiven (rs ks ds rows blocks bytes : ℕ) : Type 0 where
   pub row : rows ≤ rs
   pub block : blocks ≤ ks
   pub byte : bytes ≤ ds
@@ -92,7 +92,7 @@ module _ (mapped : Bool) (rows blocks bytes : ℕ) (out : Lent) where
       blocks bytes out
   rooms-yes g h d = past-six Accepted g h (refuse-no DataRoom (ltb (dataRoom out) bytes) Accepted Accepted (data-no d) refl)
 
-  pub rooms-give : isAccepted (whyRooms mapped rows blocks bytes out) ≡ true → Roomy (rowRoom mapped out) (blockRoom out) (dataRoom out) rows blocks bytes
+  pub rooms-give : isAccepted (whyRooms mapped rows blocks bytes out) ≡ true → RoomGiven (rowRoom mapped out) (blockRoom out) (dataRoom out) rows blocks bytes
   unfolding whyRooms
   rooms-give a =
       let f = accepted-both RowRoom (ltb (rowRoom mapped out) rows) sixth a in

@@ -7,7 +7,7 @@ use native.Mathlib.Numerals.{add-one}
 use native.Mathlib.Omega.{arith}
 use lib.ListN.{length}
 use Rattle.basis.specs.Pick.{le-yes, le-no}
-use Rattle.copy.specs.Over.{copied}
+use Rattle.copy.specs.Over.{copiedUpTo}
 use Rattle.leaf_exports.specs.Batches.{summed, ifIn}
 
 pub summed-more : (f : ℕ → ℕ) (n x s r : ℕ) → s ≡ summed f n → x ≡ f n → r ≡ (s + x) % 2 ^ 64 → r ≡ summed f (n + 1)
@@ -39,5 +39,5 @@ parts-end n m o z h k =
     let q : m / n ≡ o / n = div-eq-of-lt-le {k = o / n} n {m = m} (rw e h) (rw more (omega arith)) in
     rw (q, e)
 
-pub no-parts : (d s : List ℕ) (n m : ℕ) → n ≡ 0 → copied d s 0 ≡ copied d s (m / n * n)
+pub no-parts : (d s : List ℕ) (n m : ℕ) → n ≡ 0 → copiedUpTo d s 0 ≡ copiedUpTo d s (m / n * n)
 no-parts d s n m e = rw (e, mul-zero (m / 0))

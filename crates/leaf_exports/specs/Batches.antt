@@ -5,7 +5,7 @@ use Prim.Native.Nat.{ℕ, zero, suc, _+_, _-_, _*_, _/_, _%_, _^_, min, Ordering
 use lib.ListN.{length, take, drop, getD}
 use Rattle.basis.specs.Pick.{pick, ifLe}
 use Rattle.null_bits.specs.Bits.{countNulls}
-use Rattle.copy.specs.Over.{copied}
+use Rattle.copy.specs.Over.{copiedUpTo}
 use Rattle.order.specs.Order.{cmp, same}
 
 -- f 0 + f 1 + .. (n of them)
@@ -19,7 +19,7 @@ nullsBatch map rows times = ifLe (rows / 8 + 9) (length map) (summed (λ k. coun
 
 -- the whole parts of n bytes that both lists have, copied
 unfoldable pub partsCopied : List ℕ → List ℕ → ℕ → List ℕ
-partsCopied s d n = copied d s (min (length s) (length d) / n * n)
+partsCopied s d n = copiedUpTo d s (min (length s) (length d) / n * n)
 
 abbrev pub oneIfLess : Ordering → ℕ
 oneIfLess Ordering·lt = 1
@@ -30,12 +30,13 @@ oneIfLess Ordering·gt = 0
 unfoldable pub ifIn : List ℕ → ℕ → ℕ → ℕ → ℕ → ℕ
 ifIn l s m e x = ifLe s m (ifLe m e (ifLe e (length l) x 0) 0) 0
 
-abbrev pub part : List ℕ → ℕ → ℕ → List ℕ
-part l s e = take (e - s) (drop s l)
+abbrev pub slicePart : List ℕ → ℕ → ℕ → List ℕ
+slicePart l s e = take (e - s) (drop s l)
 
 -- 1 or 0 for two neighbouring values: whether they are the same, or the first is below the second
 unfoldable pub pairIn : List ℕ → ℕ → ℕ → ℕ → Bool → ℕ
-pairIn l s m e sameness = ifIn l s m e (pick sameness (pick (same (part l s m) (part l m e)) 1 0) (oneIfLess (cmp (part l s m) (part l m e))))
+pairIn l s m e sameness = ifIn l s m e (pick sameness (pick (same (slicePart l s m) (slicePart l m e)) 1 0) (oneIfLess (cmp (slicePart l s m)
+    (slicePart l m e))))
 
 unfoldable pub pairsBatch : List ℕ → List ℕ → Bool → ℕ
 pairsBatch l ends sameness = summed (λ k. pairIn l (getD ends k 0) (getD ends (k + 1) 0) (getD ends (k + 2) 0) sameness) (length ends - 2)

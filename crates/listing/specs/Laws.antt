@@ -11,7 +11,7 @@ use lib.ListN.{length, getD, take, set, length-append, length-set, length-take, 
 use lib.Seq.{take-suc-set, take-suc, drop-cons}
 use Rattle.basis.specs.Pick.{pick}
 use Rattle.listing.specs.Text.{digits, decimal, moreText, bytesText, textFrom, itemText, numberLine}
-use Rattle.listing.specs.Put.{Put, Holds}
+use Rattle.listing.specs.Put.{Put, HoldsText}
 
 -- one text after another
 pub put-put : {a b c : List ℕ} {at r q : ℕ} {t u : List ℕ} → Put a b at r t → Put b c r q u → Put a c at q (t ++ u)
@@ -27,11 +27,11 @@ pub put-one : (l : List ℕ) (at x : ℕ) → at < length l → Put l (set l at 
 put-one l at x h = record { ends = refl; text = rw add-one (take-suc-set l at x h); same = length-set l at x }
 
 -- nothing is put
-pub put-none : (l : List ℕ) (at : ℕ) → Put l l at at []
-put-none l at = record { ends = omega arith; text = sym (append-nil (take at l)); same = refl }
+pub put-nothing : (l : List ℕ) (at : ℕ) → Put l l at at []
+put-nothing l at = record { ends = omega arith; text = sym (append-nil (take at l)); same = refl }
 
 -- from the start of the buffer
-pub put-holds : {a b : List ℕ} {r : ℕ} {t : List ℕ} → Put a b 0 r t → length t ≤ length a → Holds b r t
+pub put-holds : {a b : List ℕ} {r : ℕ} {t : List ℕ} → Put a b 0 r t → length t ≤ length a → HoldsText b r t
 put-holds {a} {b} {r} {t} p h =
     let low : r ≤ length b = omega (arith, p .ends, p .same) in
     record { text = p .text; low = low; counts = simp length-take (omega arith) }
@@ -94,10 +94,6 @@ pub text-end : (x : List ℕ) (k : ℕ) → 0 < k → length x ≤ k → textFro
 unfolding textFrom moreText
 text-end x zero h g = absurd (omega arith)
 text-end x (suc k) h g = rw (drop-of-length-le x g)
-
-pub text-start : (x : List ℕ) → textFrom x 0 ≡ bytesText x
-unfolding textFrom
-text-start x = refl
 
 -- a part that is put, and what is left
 pub rest-more : (x : List ℕ) (k : ℕ) {a b : List ℕ} {w r : ℕ} (all : List ℕ) → k < length x → take w a ++ textFrom x k ≡ all

@@ -11,7 +11,7 @@ pub record Put (old new : List ℕ) (at r : ℕ) (t : List ℕ) : Type 0 where
   pub same : length new ≡ length old
 
 -- the first n bytes of a buffer are t
-pub record Holds (new : List ℕ) (n : ℕ) (t : List ℕ) : Type 0 where
+pub record HoldsText (new : List ℕ) (n : ℕ) (t : List ℕ) : Type 0 where
   pub text : take n new ≡ t
   pub low : n ≤ length new
   pub counts : n ≡ length (take n new)

@@ -4,7 +4,7 @@ ghost use mathlib.Core.List.{[], _∷_};
 ghost use Prim.Native.Nat.{_+_, _*_, _-_, _≤_, _<_};
 ghost use lib.ListN.{length};
 ghost use Rattle.listing.specs.Text.{decimal, textFrom, itemText, numberLine, opening, rowOpen, rowClose, rowNull, gapLine, closing, refusedLine};
-ghost use Rattle.listing.specs.Put.{Put, Holds, Rest};
+ghost use Rattle.listing.specs.Put.{Put, HoldsText, Rest};
 
 // One byte more of a text that stands at the start of out.
 fn put(out: &mut [u8], at: usize, x: u8) -> usize
@@ -88,28 +88,28 @@ fn put_line(out: &mut [u8], at: usize, name: &[u8], n: usize) -> usize
 // "BinaryViewArray", "[".
 pub fn put_opening(out: &mut [u8]) -> usize
     requires { ⌜ 200 ≤ length (now out) ⌝ }
-    ensures { λ r. ⌜ Holds (now (out .exit)) r opening ⌝ }
+    ensures { λ r. ⌜ HoldsText (now (out .exit)) r opening ⌝ }
 {
     put_bytes(out, 0, b"BinaryViewArray\n[\n")
 }
 
 pub fn put_row_open(out: &mut [u8]) -> usize
     requires { ⌜ 200 ≤ length (now out) ⌝ }
-    ensures { λ r. ⌜ Holds (now (out .exit)) r rowOpen ⌝ }
+    ensures { λ r. ⌜ HoldsText (now (out .exit)) r rowOpen ⌝ }
 {
     put_bytes(out, 0, b"  [")
 }
 
 pub fn put_row_close(out: &mut [u8]) -> usize
     requires { ⌜ 200 ≤ length (now out) ⌝ }
-    ensures { λ r. ⌜ Holds (now (out .exit)) r rowClose ⌝ }
+    ensures { λ r. ⌜ HoldsText (now (out .exit)) r rowClose ⌝ }
 {
     put_bytes(out, 0, b"],\n")
 }
 
 pub fn put_row_null(out: &mut [u8]) -> usize
     requires { ⌜ 200 ≤ length (now out) ⌝ }
-    ensures { λ r. ⌜ Holds (now (out .exit)) r rowNull ⌝ }
+    ensures { λ r. ⌜ HoldsText (now (out .exit)) r rowNull ⌝ }
 {
     put_bytes(out, 0, b"  null,\n")
 }
@@ -117,7 +117,7 @@ pub fn put_row_null(out: &mut [u8]) -> usize
 // "  ...N elements...,"
 pub fn put_gap(out: &mut [u8], n: usize) -> usize
     requires { ⌜ 200 ≤ length (now out) ⌝ }
-    ensures { λ r. ⌜ Holds (now (out .exit)) r (gapLine n) ⌝ }
+    ensures { λ r. ⌜ HoldsText (now (out .exit)) r (gapLine n) ⌝ }
 {
     let a = put_bytes(out, 0, b"  ...");
     let b = put_number(out, a, n);
@@ -134,7 +134,7 @@ pub fn put_closing(
     blocks: usize,
 ) -> usize
     requires { ⌜ 200 ≤ length (now out) ⌝ }
-    ensures { λ r. ⌜ Holds (now (out .exit)) r (closing rows nulls bytes long blocks) ⌝ }
+    ensures { λ r. ⌜ HoldsText (now (out .exit)) r (closing rows nulls bytes long blocks) ⌝ }
 {
     let a = put_bytes(out, 0, b"]\n");
     let b = put_line(out, a, b"rows=", rows);
@@ -147,7 +147,7 @@ pub fn put_closing(
 // "refused=N"
 pub fn put_refused(out: &mut [u8], n: usize) -> usize
     requires { ⌜ 200 ≤ length (now out) ⌝ }
-    ensures { λ r. ⌜ Holds (now (out .exit)) r (refusedLine n) ⌝ }
+    ensures { λ r. ⌜ HoldsText (now (out .exit)) r (refusedLine n) ⌝ }
 {
     put_line(out, 0, b"refused=", n)
 }

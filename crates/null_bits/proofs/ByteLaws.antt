@@ -4,25 +4,25 @@ use mathlib.Core.Bool.{Bool, true, false}
 use mathlib.Core.List.{List}
 use Prim.Native.Nat.{ℕ, zero, suc, _+_, _-_, _*_, _/_, _%_, _^_, _≤_, _<_}
 use native.Mathlib.Nat.{mod-lt, add-comm, mul-comm, div-one, zero-div, mod-eq-of-lt}
-use native.Mathlib.Numerals.{one-add}
+use native.Mathlib.Numerals.{one-add, add-one}
 use native.Mathlib.Omega.{arith}
 use borrow.Author.Tests.{eqb-true, eqb-false, ltb-true, ltb-false}
 use lib.Arith.{digits-lt}
 use lib.Dec.{eqb, ltb}
 use lib.ListN.{length, getD, set, length-set}
 use lib.Bits.{bitAnd}
-use lib.Pow.{pow-pos, shl-exact, pow-add, shr-shr, mod-pow-add, field, mod-mod-pow, shr-mod}
+use lib.Pow.{pow-pos, pow-mono, shl-exact, pow-add, shr-shr, mod-pow-add, field, mod-mod-pow, shr-mod}
 use lib.Seq.{getD-set-same, set-set}
-use Rattle.null_bits.specs.Bits.{bitAt, isValid, putBit, putIn, bitOf}
-use Rattle.null_bits.specs.Runs.{putBits, digit}
-use Rattle.null_bits.specs.RunLaws.{bits-add, bits-same}
+use Rattle.null_bits.specs.Bits.{bitAt, isValid, putBit, putIn, bitNumber}
+use Rattle.null_bits.specs.Runs.{putBits, putBytes, putRun, digit}
+use Rattle.null_bits.specs.RunLaws.{length-bits, bits-add, bits-same}
 use Rattle.null_bits.proofs.Laws.{put-null}
 
-digit-bit : (x k : ℕ) → bitOf (digit x k) ≡ x / 2 ^ k % 2
+digit-bit : (x k : ℕ) → bitNumber (digit x k) ≡ x / 2 ^ k % 2
 unfolding digit
 digit-bit x k = by (eqb (x / 2 ^ k % 2) 1) refl
   where
-    by : (b : Bool) → eqb (x / 2 ^ k % 2) 1 ≡ b → bitOf b ≡ x / 2 ^ k % 2
+    by : (b : Bool) → eqb (x / 2 ^ k % 2) 1 ≡ b → bitNumber b ≡ x / 2 ^ k % 2
     by true e = sym (eqb-true (x / 2 ^ k % 2) 1 e)
     by false e = let n = eqb-false (x / 2 ^ k % 2) 1 e in omega arith
 
@@ -187,10 +187,68 @@ run-rest m map out first k n bits more h em eo same =
     eo ∙ bits-same map (first + k) more (λ j. bits (k + j)) (n - k) (λ j l. same j) ∙ rw em (sym (bits-add m first bits k (n - k))
     ∙ ap (putBits m first bits) e)
 
--- the first byte's bits as the code joins them, and that they fit a byte
-pub joined : (old x pos p : ℕ) → pos + p ≡ 8 → pos < 8 → p < 8
+-- a byte's bits as the code joins them, and that they fit a byte
+pub joined : (old x pos p : ℕ) → pos + p ≤ 8 → pos < 8 → p < 8
     → bitAnd old (1 * 2 ^ pos % 2 ^ 64 - 1) + bitAnd x (1 * 2 ^ p % 2 ^ 64 - 1) * 2 ^ pos % 2 ^ 64 ≡ old % 2 ^ pos + x % 2 ^ p * 2 ^ pos
 joined old x pos p e h k = rw (put-null old pos h, put-null x p k, shl-exact {a = x % 2 ^ p} p pos 64 (mod-lt x (pow-pos p)) (omega arith))
 
-pub joined-lt : (old x pos p : ℕ) → pos + p ≡ 8 → old % 2 ^ pos + x % 2 ^ p * 2 ^ pos < 2 ^ 8
-joined-lt old x pos p e = rw e at (filled-lt old pos x p)
+pub joined-lt : (old x pos p : ℕ) → pos + p ≤ 8 → old % 2 ^ pos + x % 2 ^ p * 2 ^ pos < 2 ^ 8
+joined-lt old x pos p e =
+    let a = filled-lt old pos x p in
+    let b : 2 ^ (pos + p) ≤ 2 ^ 8 = pow-mono e in
+    omega arith
+
+-- ---- a run of one bit
+
+-- n bits in one byte, by row
+pub part-in : (map : List ℕ) (row x n : ℕ) → (n ≡ 0 → ⊥) → row % 8 + n ≤ 8 → row / 8 < length map
+    → set map (row / 8) (getD map (row / 8) 0 % 2 ^ (row % 8) + x % 2 ^ n * 2 ^ (row % 8)) ≡ putBits map row (digit x) n
+part-in map row x n ne h l =
+    let en : suc (n - 1) ≡ n = omega (arith, ne) in
+    let er : 8 * (row / 8) + row % 8 ≡ row = omega arith in
+    sym (rw (en, er) at (in-byte map (row / 8) (row % 8) x (n - 1) (omega (arith, ne)) l))
+
+pub length-bytes : (map : List ℕ) (i x n : ℕ) → length (putBytes map i x n) ≡ length map
+unfolding putBytes
+length-bytes map i x zero = refl
+length-bytes map i x (suc n) = length-set (putBytes map i x n) (i + n) x ∙ length-bytes map i x n
+
+pub bytes-none : (map : List ℕ) (i x : ℕ) → map ≡ putBytes map i x 0
+unfolding putBytes
+bytes-none map i x = refl
+
+pub bytes-more : (map out : List ℕ) (i x k : ℕ) → out ≡ putBytes map i x k → set out (i + k) x ≡ putBytes map i x (k + 1)
+unfolding putBytes
+bytes-more map out i x k e = rw (e, add-one k)
+
+module _ (x : ℕ) (v : Bool) (small : x < 2 ^ 8) (same : (j : ℕ) → j < 8 → digit x j ≡ v) where
+  pub part-run : (map out : List ℕ) (row n : ℕ) → n < 8 → out ≡ putBits map row (digit x) n → out ≡ putRun map row n v
+  part-run map out row n h e = e ∙ bits-same map row (digit x) (λ k. v) n (λ k l. same k (omega arith))
+
+  bytes-run : (map : List ℕ) (i n : ℕ) → i + n ≤ length map → putBytes map i x n ≡ putRun map (8 * i) (8 * n) v
+  unfolding putBytes putBits
+  bytes-run map i zero h = refl
+  bytes-run map i (suc n) h =
+      let byte : (8 * i + 8 * n) / 8 ≡ i + n = omega arith in
+      let l : (8 * i + 8 * n) / 8 < length (putBytes map i x n) = rw (length-bytes map i x n) (omega arith) in
+      let one : set (putBytes map i x n) (i + n) x ≡ putBits (putBytes map i x n) (8 * i + 8 * n) (digit x) 8 =
+      rw byte at (byte-whole (putBytes map i x n) (8 * i + 8 * n) x small (omega arith) l) in
+      let all : 8 * n + 8 ≡ 8 * suc n = omega arith in
+      rw (← all) (next-byte map (putBytes map i x n) _ (8 * i) (8 * n) x (λ j. v) (bytes-run map i n (omega arith)) one same)
+
+  -- up to the next whole byte, whole bytes, and the rest
+  pub run-of : (m m1 m2 out : List ℕ) (first gap rows : ℕ) → gap < 8 → gap ≤ rows → (first + gap) % 8 ≡ 0 → first + rows ≤ 8 * length m
+      → m1 ≡ putBits m first (digit x) gap → m2 ≡ putBytes m1 ((first + gap) / 8) x ((rows - gap) / 8)
+      → out ≡ putBits m2 (first + gap + (rows - gap) / 8 * 8) (digit x) ((rows - gap) % 8) → out ≡ putRun m first rows v
+  run-of m m1 m2 out first gap rows hg hr hz h e1 e2 eo =
+      let w : ℕ = (rows - gap) / 8 in
+      let t : ℕ = (rows - gap) % 8 in
+      let p1 = part-run m m1 first gap hg e1 in
+      let l1 : length m1 ≡ length m = ap length p1 ∙ length-bits m first (λ k. v) gap in
+      let at : 8 * ((first + gap) / 8) ≡ first + gap = omega arith in
+      let p2 : m2 ≡ putRun m1 (first + gap) (8 * w) v = rw at at (e2 ∙ bytes-run m1 ((first + gap) / 8) w (omega arith)) in
+      let q2 : m2 ≡ putRun m first (gap + 8 * w) v = p2 ∙ rw p1 (sym (bits-add m first (λ k. v) gap (8 * w))) in
+      let a3 : first + gap + w * 8 ≡ first + (gap + 8 * w) = omega arith in
+      let p3 : out ≡ putRun m2 (first + (gap + 8 * w)) t v = rw a3 at (part-run m2 out (first + gap + w * 8) t (omega arith) eo) in
+      let all : gap + 8 * w + t ≡ rows = omega arith in
+      rw (← all) (p3 ∙ rw q2 (sym (bits-add m first (λ k. v) (gap + 8 * w) t)))

@@ -39,13 +39,13 @@ unfoldable pub countNulls : List ℕ → Bool → ℕ → ℕ → ℕ
 countNulls map mapped first zero = 0
 countNulls map mapped first (suc n) = countNulls map mapped first n + nullOf (validAt map mapped (first + n))
 
-abbrev pub bitOf : Bool → ℕ
-bitOf true = 1
-bitOf false = 0
+abbrev pub bitNumber : Bool → ℕ
+bitNumber true = 1
+bitNumber false = 0
 
 -- the byte with the bit at pos written, the bits below it kept and those above it 0
 abbrev pub putIn : ℕ → ℕ → Bool → ℕ
-putIn old pos valid = old % 2 ^ pos + bitOf valid * 2 ^ pos
+putIn old pos valid = old % 2 ^ pos + bitNumber valid * 2 ^ pos
 
 -- the map with the bit of a row written
 unfoldable pub putBit : List ℕ → ℕ → Bool → List ℕ

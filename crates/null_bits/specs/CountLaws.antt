@@ -8,18 +8,18 @@ use native.Mathlib.Nat.{add-zero, add-suc, add-assoc}
 use native.Mathlib.Omega.{arith}
 use borrow.Author.Tests.{eqb-true, eqb-false}
 use lib.Dec.{eqb, lit≤}
-use Rattle.null_bits.specs.Bits.{bitAt, isValid, validAt, nullOf, bitOf, countValid, countNulls, Counted}
+use Rattle.null_bits.specs.Bits.{bitAt, isValid, validAt, nullOf, bitNumber, countValid, countNulls, Counted}
 
 pub bit-lt : (map : List ℕ) (row : ℕ) → bitAt map row < 2
 unfolding bitAt
 bit-lt map row = omega arith
 
 -- a bit is 1 or 0 as its row is valid or null
-pub bit-is : (map : List ℕ) (row : ℕ) → bitAt map row ≡ bitOf (isValid map row)
+pub bit-is : (map : List ℕ) (row : ℕ) → bitAt map row ≡ bitNumber (isValid map row)
 unfolding isValid
 bit-is map row = by (eqb (bitAt map row) 1) refl
   where
-    by : (b : Bool) → eqb (bitAt map row) 1 ≡ b → bitAt map row ≡ bitOf b
+    by : (b : Bool) → eqb (bitAt map row) 1 ≡ b → bitAt map row ≡ bitNumber b
     by true e = eqb-true (bitAt map row) 1 e
     by false e = let n = eqb-false (bitAt map row) 1 e in omega (arith, bit-lt map row)
 
@@ -40,8 +40,8 @@ unfolding countValid
 count-le map first zero = lit≤ tt
 count-le map first (suc k) = omega (arith, count-le map first k, bit-lt map (first + k))
 
-pub counted : (map : List ℕ) (first rows r : ℕ) → r ≡ countValid map first rows → Counted map first rows r
-counted map first rows r e = record { is = e; most = omega (arith, count-le map first rows) }
+pub count-is : (map : List ℕ) (first rows r : ℕ) → r ≡ countValid map first rows → Counted map first rows r
+count-is map first rows r e = record { is = e; most = omega (arith, count-le map first rows) }
 
 -- no map, no nulls
 pub nulls-none : (map : List ℕ) (first k : ℕ) → countNulls map false first k ≡ 0
@@ -55,7 +55,7 @@ unfolding countNulls countValid validAt
 nulls-valid map first zero = refl
 nulls-valid map first (suc k) = by (isValid map (first + k)) (bit-is map (first + k)) (nulls-valid map first k)
   where
-    by : (v : Bool) → bitAt map (first + k) ≡ bitOf v → countNulls map true first k + countValid map first k ≡ k
+    by : (v : Bool) → bitAt map (first + k) ≡ bitNumber v → countNulls map true first k + countValid map first k ≡ k
         → countNulls map true first k + nullOf v + (countValid map first k + bitAt map (first + k)) ≡ suc k
     by true e more = omega arith
     by false e more = omega arith

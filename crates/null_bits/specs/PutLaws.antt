@@ -12,16 +12,16 @@ use lib.Dec.{eqb}
 use lib.Pow.{pow-pos, pow-mono, mod-mod-pow, field, high, low}
 use lib.ListN.{length, getD, length-set}
 use lib.Seq.{getD-set-same, getD-set-other}
-use Rattle.null_bits.specs.Bits.{bitAt, isValid, putBit, putIn, bitOf}
+use Rattle.null_bits.specs.Bits.{bitAt, isValid, putBit, putIn, bitNumber}
 
-bit-one : (v : Bool) → bitOf v % 2 ≡ bitOf v
+bit-one : (v : Bool) → bitNumber v % 2 ≡ bitNumber v
 bit-one true = refl
 bit-one false = refl
 
 -- in one byte: the bit that was written, and one below it
-put-in-same : (old p : ℕ) (v : Bool) → putIn old p v / 2 ^ p % 2 ≡ bitOf v
+put-in-same : (old p : ℕ) (v : Bool) → putIn old p v / 2 ^ p % 2 ≡ bitNumber v
 put-in-same old p v =
-    rw (add-comm (old % 2 ^ p) (bitOf v * 2 ^ p), high (bitOf v) p (mod-lt old (pow-pos p))) (bit-one v)
+    rw (add-comm (old % 2 ^ p) (bitNumber v * 2 ^ p), high (bitNumber v) p (mod-lt old (pow-pos p))) (bit-one v)
 
 put-in-lt : (old p : ℕ) (v : Bool) → putIn old p v < 2 ^ suc p
 put-in-lt old p true = omega (arith, mod-lt old (pow-pos p))
@@ -31,17 +31,18 @@ put-in-below : (old q d : ℕ) (v : Bool) → putIn old (d + (1 + q)) v / 2 ^ q 
 put-in-below old q d v =
     let p : ℕ = d + (1 + q) in
     let x : ℕ = putIn old p v in
-    let whole : x % 2 ^ p ≡ old % 2 ^ p = ap (λ (n : ℕ). n % 2 ^ p) (add-comm (old % 2 ^ p) (bitOf v * 2 ^ p)) ∙ low (bitOf v) p (mod-lt old (pow-pos p)) in
+    let whole : x % 2 ^ p ≡ old % 2 ^ p = ap (λ (n : ℕ). n % 2 ^ p) (add-comm (old % 2 ^ p) (bitNumber v * 2 ^ p)) ∙ low (bitNumber v) p (mod-lt old
+    (pow-pos p)) in
     let part : x % 2 ^ (1 + q) ≡ old % 2 ^ (1 + q) =
     sym (mod-mod-pow x d (1 + q)) ∙ ap (λ (n : ℕ). n % 2 ^ (1 + q)) whole ∙ mod-mod-pow old d (1 + q) in
     sym (field x 1 q) ∙ ap (λ (n : ℕ). n / 2 ^ q) part ∙ field old 1 q
 
-pub length-put : (map : List ℕ) (row : ℕ) (v : Bool) → length (putBit map row v) ≡ length map
+pub length-put-bit : (map : List ℕ) (row : ℕ) (v : Bool) → length (putBit map row v) ≡ length map
 unfolding putBit
-length-put map row v = length-set map (row / 8) (putIn (getD map (row / 8) 0) (row % 8) v)
+length-put-bit map row v = length-set map (row / 8) (putIn (getD map (row / 8) 0) (row % 8) v)
 
 -- a row reads as it was written
-pub bit-put-same : (map : List ℕ) (row : ℕ) (v : Bool) → row / 8 < length map → bitAt (putBit map row v) row ≡ bitOf v
+pub bit-put-same : (map : List ℕ) (row : ℕ) (v : Bool) → row / 8 < length map → bitAt (putBit map row v) row ≡ bitNumber v
 unfolding bitAt putBit
 bit-put-same map row v h =
     rw (getD-set-same map (row / 8) (putIn (getD map (row / 8) 0) (row % 8) v) 0 h) (put-in-same (getD map (row / 8) 0) (row % 8) v)
@@ -72,7 +73,7 @@ pub valid-put-same : (map : List ℕ) (row : ℕ) (v : Bool) → row / 8 < lengt
 unfolding isValid
 valid-put-same map row v h = rw (bit-put-same map row v h) (by v)
   where
-    by : (w : Bool) → eqb (bitOf w) 1 ≡ w
+    by : (w : Bool) → eqb (bitNumber w) 1 ≡ w
     by true = refl
     by false = refl
 

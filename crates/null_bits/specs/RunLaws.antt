@@ -12,12 +12,12 @@ use lib.ListN.{length}
 use Rattle.null_bits.specs.Bits.{isValid, validAt, nullOf, countNulls, putBit}
 use Rattle.null_bits.specs.Runs.{putBits, putRun, copyBits, copyColumn}
 use Rattle.null_bits.specs.CountLaws.{valid-map}
-use Rattle.null_bits.specs.PutLaws.{length-put, valid-put-same, valid-put-before}
+use Rattle.null_bits.specs.PutLaws.{length-put-bit, valid-put-same, valid-put-before}
 
 pub length-bits : (map : List ℕ) (first : ℕ) (bits : ℕ → Bool) (n : ℕ) → length (putBits map first bits n) ≡ length map
 unfolding putBits
 length-bits map first bits zero = refl
-length-bits map first bits (suc n) = length-put (putBits map first bits n) (first + n) (bits n) ∙ length-bits map first bits n
+length-bits map first bits (suc n) = length-put-bit (putBits map first bits n) (first + n) (bits n) ∙ length-bits map first bits n
 
 -- a run in two parts
 pub bits-add : (map : List ℕ) (first : ℕ) (bits : ℕ → Bool) (m n : ℕ) → putBits map first bits (m + n) ≡ putBits (putBits map first bits m)

@@ -22,7 +22,7 @@ use Rattle.views.specs.ViewLaws.{make-short, make-long, zero-view}
 use Rattle.column.specs.declared.Kind.{Kind}
 use Rattle.column.specs.declared.Kind.the-variants.{Binary, Text}
 use Rattle.column.specs.Lent.{Lent, block, blockAt, fits, inData, allInData, rowRoom, dataRoom}
-use Rattle.column.specs.Meaning.{blocksOf, shownAt, validAt}
+use Rattle.column.specs.Meaning.{blocksOf, shownAt, rowValid}
 use Rattle.column.specs.Truth.{ofKind, trueAt}
 use Rattle.column.specs.LowestLaws.{lowest-none}
 use Rattle.column.specs.Laid.{rowsOf, viewsOf, bitsOf}
@@ -110,7 +110,7 @@ module _ (w : ℕ) (s : Source) (k : Kind) (out : Lent) (g : Given w s k out) wh
   blocks-back = ap (λ (x : List ℕ). x ∷ []) (take-append-seam (s .bytes) (drop (length (s .bytes)) (out .bytes)))
 
   bits-back : bitsOf made (offsetColumn w s k) ≡ rowsOf (validRow w s) (rowsIn w s)
-  unfolding bitsOf fromOffsets validAt bits.validAt
+  unfolding bitsOf fromOffsets rowValid bits.validAt
   bits-back = by (anyNull (s .nulls) (s .mapped) (rowsIn w s)) refl
     where
       by : (t : Bool) → anyNull (s .nulls) (s .mapped) (rowsIn w s) ≡ t
@@ -191,7 +191,7 @@ module _ (w : ℕ) (s : Source) (k : Kind) (out : Lent) (a : isAccepted (whyOffs
     pub offsets-value : shownAt (fromOffsets w s out) (offsetColumn w s k) r ≡ valueIn w s r
     offsets-value = shows-value offsets-shows r h ∙ getD-rows (valueIn w s) (rowsIn w s) r [] h
 
-    pub offsets-bit : validAt (fromOffsets w s out) (offsetColumn w s k) r ≡ validRow w s r
+    pub offsets-bit : rowValid (fromOffsets w s out) (offsetColumn w s k) r ≡ validRow w s r
     offsets-bit = shows-bit offsets-shows r h ∙ getD-rows (validRow w s) (rowsIn w s) r true h
 
     pub offsets-null : validRow w s r ≡ false → shownAt (fromOffsets w s out) (offsetColumn w s k) r ≡ []

@@ -22,10 +22,10 @@ use Rattle.showing.specs.Rooms.{rooms}
 use Rattle.laying.specs.Written.{front, putRows}
 use Rattle.laying.specs.WrittenLaws.{front-one}
 use Rattle.laying.specs.Rooms.{whyRooms}
-use Rattle.laying.specs.RoomLaws.{Roomy, rooms-give}
+use Rattle.laying.specs.RoomLaws.{RoomGiven, rooms-give}
 use Rattle.offsets.specs.declared.Outcome.{Outcome}
 use Rattle.offsets.specs.Offsets.{Source, offsetCount, rowsIn, cuts, anyNull, kindAt, whyKinds, rowViewOf, whyOffsets, fromOffsets, offsetColumn, noColumn, offsetsOf, Converted}
-use Rattle.offsets.specs.Steps.{CutIn, SourceIn, Good}
+use Rattle.offsets.specs.Steps.{CutIn, SourceIn, GoodRows}
 use Rattle.offsets.specs.OffsetLaws.{map-there, cuts-give, cuts-count, bits-from, kinds-none, kinds-bad, kinds-good}
 
 -- ---- the verdict
@@ -62,7 +62,7 @@ module _ (w : ℕ) (s : Source) (k : Kind) (out : Lent) where
       unfolding whyOffsets
       refused-cut h = refuse-no Fit short _ (Refused Offsets) (rw e at fit) (refuse-yes Offsets (not cutting) _ (Refused Offsets) h refl)
 
-      module _ (c : not cutting ≡ false) (g : ℕ) (j : Good w s k rows g) where
+      module _ (c : not cutting ≡ false) (g : ℕ) (j : GoodRows w s k rows g) where
         past : (y : Why) → y ≡ whyKinds w s k (rowsIn w s) (whyRooms true (rowsIn w s) 1 (length (s .bytes)) out) → y ≡ whyOffsets w s k out
         unfolding whyOffsets
         past y h = refuse-no Fit short _ y (rw e at fit) (refuse-no Offsets (not cutting) _ y c h)
@@ -92,7 +92,7 @@ pub record Given (w : ℕ) (s : Source) (k : Kind) (out : Lent) : Type 0 where
   pub cut : (j : ℕ) → j < rowsIn w s → CutIn w (s .offsets) (length (s .bytes)) j
   pub map : s .mapped ≡ true → rowsIn w s ≤ 8 * length (s .nulls)
   pub kinds : (j : ℕ) → j < rowsIn w s → kindAt w s k j ≡ true
-  pub rooms : Roomy (rowRoom true out) (blockRoom out) (dataRoom out) (rowsIn w s) 1 (length (s .bytes))
+  pub rooms : RoomGiven (rowRoom true out) (blockRoom out) (dataRoom out) (rowsIn w s) 1 (length (s .bytes))
 
 pub given : (w : ℕ) (s : Source) (k : Kind) (out : Lent) → isAccepted (whyOffsets w s k out) ≡ true → Given w s k out
 unfolding whyOffsets

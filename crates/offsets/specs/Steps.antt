@@ -32,7 +32,7 @@ pub record SourceIn (w : ℕ) (s : Source) (rows : ℕ) : Type 0 where
   pub map : s .mapped ≡ true → rows ≤ 8 * length (s .nulls)
 
 -- the rows that are of the kind, before the first that isn't
-pub record Good (w : ℕ) (s : Source) (k : Kind) (rows good : ℕ) : Type 0 where
+pub record GoodRows (w : ℕ) (s : Source) (k : Kind) (rows good : ℕ) : Type 0 where
   pub within : good ≤ rows
   pub truth : (r : ℕ) → r < good → kindAt w s k r ≡ true
   pub bad : good < rows → kindAt w s k good ≡ false

@@ -10,7 +10,7 @@ ghost use Rattle.column.specs.Lent.{lent};
 ghost use Rattle.column.specs.Truth.{ofKind};
 ghost use Rattle.laying.specs.Written.{putRows};
 ghost use Rattle.offsets.specs.Offsets.{widthOf, source, offsetAt, offsetCount, half, cuts, cutAt, anyNull, kindAt, rowViewOf, whyOffsets, Converted};
-ghost use Rattle.offsets.specs.Steps.{isText, rising, CutIn, SourceIn, Good};
+ghost use Rattle.offsets.specs.Steps.{isText, rising, CutIn, SourceIn, GoodRows};
 ghost use Rattle.utf8.specs.Cut.{Begins};
 use bounds::Refusal;
 use bounds::Why;
@@ -179,7 +179,7 @@ fn good_rows<'a>(
     rows: usize,
 ) -> usize
     requires { ⌜ SourceIn (widthOf large) (source (now offsets) (now bytes) (now nulls) mapped) rows ⌝ }
-    ensures { λ r. ⌜ Good (widthOf large) (source (now (offsets .entry)) (now (bytes .entry)) (now (nulls .entry)) mapped) kind rows r ⌝ }
+    ensures { λ r. ⌜ GoodRows (widthOf large) (source (now (offsets .entry)) (now (bytes .entry)) (now (nulls .entry)) mapped) kind rows r ⌝ }
 {
     if whole(offsets, large, bytes, kind, rows) {
         return rows;
@@ -347,7 +347,7 @@ fn convert<'a>(
     }
     let rows = count(offsets, large) - 1;
     write(newviews, offsets, large, bytes, nulls, mapped, rows);
-    copy::copy(bytes, newbytes);
+    copy::chunks(bytes, newbytes);
     newstarts[0] = 0;
     newlens[0] = bytes.len();
     null_bits::runs::copy_column(newnulls, 0, nulls, mapped, 0, rows);

@@ -1,68 +1,20 @@
 -- Laws of the byte order: what equal bytes, words that differ and lengths decide. Assumes nothing.
 use mathlib.Core.Path.{_≡_, refl, sym, _∙_}
 use mathlib.Core.List.{List, [], _∷_}
-use Prim.Native.Nat.{ℕ, zero, suc, _+_, _-_, _*_, _/_, _%_, _^_, _≤_, _<_, min, compare, Ordering, Ordering·lt, Ordering·eq, Ordering·gt, compare·zero-zero, compare·zero-suc, compare·suc-zero, compare·suc-suc}
-use native.Mathlib.Nat.{add-zero, add-suc, zero-add}
+use Prim.Native.Nat.{ℕ, zero, suc, _+_, _-_, _*_, _/_, _%_, _^_, _≤_, _<_, min, compare, Ordering, compare·zero-zero, compare·zero-suc, compare·suc-zero, compare·suc-suc}
+use native.Mathlib.Nat.{zero-add}
 use native.Mathlib.Omega.{arith}
 use borrow.Author.Count.{below-more}
 use lib.Bits.{bitOr, bitXor, or-add-and, xor-add-and, and-le-l, and-le-r, xor-self}
-use lib.ListN.{length, getD, take, drop, drop-of-length-le, length-drop}
-use lib.Seq.{drop-cons, ext-getD, length-take-le}
+use lib.ListN.{length, getD, drop}
+use lib.Seq.{ext-getD}
 use Rattle.words.specs.Words.{Bytes, wordAt, beAt}
 use Rattle.words.specs.WordLaws.{word-digit}
-use Rattle.words.specs.ListLaws.{be-part, bytes-part}
 use Rattle.order.specs.Order.{thenby, cmp, Agree}
-use Rattle.order.specs.OrderLaws.{compare-lt, compare-gt, compare-eq, Tri, below, level, above, tri}
-
-assoc : (c o p : Ordering) → thenby (thenby c o) p ≡ thenby c (thenby o p)
-assoc Ordering·lt o p = refl
-assoc Ordering·eq o p = refl
-assoc Ordering·gt o p = refl
-
--- two numbers by their high parts, then by their last digits
-digit : (u v x y : ℕ) → x < 256 → y < 256 → thenby (compare u v) (compare x y) ≡ compare (u * 256 + x) (v * 256 + y)
-digit u v x y hx hy = by (tri u v)
-  where
-    by : Tri u v → thenby (compare u v) (compare x y) ≡ compare (u * 256 + x) (v * 256 + y)
-    by (below h) = rw (compare-lt u v h) (sym (compare-lt (u * 256 + x) (v * 256 + y) (omega arith)))
-    by (above h) = rw (compare-gt u v h) (sym (compare-gt (u * 256 + x) (v * 256 + y) (omega arith)))
-    by (level h) = rw (compare-eq u v h) (last (tri x y))
-      where
-        last : Tri x y → compare x y ≡ compare (u * 256 + x) (v * 256 + y)
-        last (below k) = rw (compare-lt x y k) (sym (compare-lt (u * 256 + x) (v * 256 + y) (omega arith)))
-        last (above k) = rw (compare-gt x y k) (sym (compare-gt (u * 256 + x) (v * 256 + y) (omega arith)))
-        last (level k) = rw (compare-eq x y k) (sym (compare-eq (u * 256 + x) (v * 256 + y) (omega arith)))
-
--- numbers that differ decide
-firm : (x y : ℕ) (o : Ordering) → (x ≡ y → ⊥) → thenby (compare x y) o ≡ compare x y
-firm x y o ne = by (tri x y)
-  where
-    by : Tri x y → thenby (compare x y) o ≡ compare x y
-    by (below h) = rw (compare-lt x y h)
-    by (above h) = rw (compare-gt x y h)
-    by (level h) = absurd (ne h)
+use Rattle.order.specs.OrderLaws.{compare-eq, Tri, below, level, above, tri}
+use Rattle.order.specs.WordOrder.{firm, cmp-byte, cmp-word, still, none-left}
 
 -- ---- the order of lists
-
--- one byte
-cmp-byte : (a b : List ℕ) (i : ℕ) → i < length a → i < length b
-    → cmp (drop i a) (drop i b) ≡ thenby (compare (getD a i 0) (getD b i 0)) (cmp (drop (suc i) a) (drop (suc i) b))
-unfolding cmp
-cmp-byte a b i ha hb = rw (drop-cons a i 0 ha, drop-cons b i 0 hb)
-
--- n bytes as one number, the high byte first
-cmp-word : (a b : List ℕ) (i n : ℕ) → Bytes a → Bytes b → i + n ≤ length a → i + n ≤ length b
-    → cmp (drop i a) (drop i b) ≡ thenby (compare (beAt a i n) (beAt b i n)) (cmp (drop (i + n) a) (drop (i + n) b))
-unfolding beAt
-cmp-word a b i zero ba bb ha hb = rw (add-zero i)
-cmp-word a b i (suc n) ba bb ha hb =
-    rw (
-      cmp-word a b i n ba bb (omega arith) (omega arith),
-      cmp-byte a b (i + n) (omega arith) (omega arith),
-      add-suc i n,
-      ← assoc (compare (beAt a i n) (beAt b i n)) (compare (getD a (i + n) 0) (getD b (i + n) 0)) (cmp (drop (suc (i + n)) a) (drop (suc (i + n)) b)),
-      digit (beAt a i n) (beAt b i n) (getD a (i + n) 0) (getD b (i + n) 0) (ba (i + n)) (bb (i + n)),
-    )
 
 -- equal bytes in front leave the order to the rest
 cmp-from : (a b : List ℕ) (i : ℕ) → i ≤ length a → i ≤ length b → Agree a b 0 i → cmp a b ≡ cmp (drop i a) (drop i b)
@@ -169,47 +121,17 @@ byte-same a b i x y e ex ey exy = below-more (λ (k : ℕ). getD a (0 + k) 0 ≡
 pub same-all : (a b : List ℕ) (n : ℕ) → n ≡ length a → n ≡ length b → Agree a b 0 n → a ≡ b
 same-all a b n ha hb e = ext-getD 0 a b (sym ha ∙ hb) (λ k h. rw (zero-add k) at (e k (omega arith)))
 
--- ---- two short views: twelve bytes as two words
+-- ---- two short views whose first four bytes are equal: the other eight as a word
 
-still : (o : Ordering) → thenby o Ordering·eq ≡ o
-still Ordering·lt = refl
-still Ordering·eq = refl
-still Ordering·gt = refl
+module _ (v w : List ℕ) (bv : Bytes v) (bw : Bytes w) (hv : length v ≡ 16) (hw : length w ≡ 16) (four : beAt v 4 4 ≡ beAt w 4 4)
+    (x y : ℕ) (ex : x ≡ beAt v 8 8) (ey : y ≡ beAt w 8 8) (o : Ordering) where
+  twelve : cmp (drop 4 v) (drop 4 w) ≡ compare x y
+  twelve =
+      cmp-word v w 4 4 bv bw (omega arith) (omega arith) ∙ rw (compare-eq (beAt v 4 4) (beAt w 4 4) four, ex, ey)
+      (cmp-word v w 8 8 bv bw (omega arith) (omega arith) ∙ rw (none-left v w 16 hv hw) (still (compare (beAt v 8 8) (beAt w 8 8))))
 
-none-left : (v w : List ℕ) (n : ℕ) → length v ≡ n → length w ≡ n → cmp (drop n v) (drop n w) ≡ Ordering·eq
-unfolding cmp
-none-left v w n hv hw = rw (drop-of-length-le v {i = n} (omega arith), drop-of-length-le w {i = n} (omega arith))
+  pub eight-differ : (x ≡ y → ⊥) → compare x y ≡ thenby (cmp (drop 4 v) (drop 4 w)) o
+  eight-differ ne = rw twelve (sym (firm x y o ne))
 
-module _ (v w : List ℕ) (bv : Bytes v) (bw : Bytes w) (hv : length v ≡ 16) (hw : length w ≡ 16) (x y : ℕ) (ex : x ≡ beAt v 4 8) (ey : y ≡ beAt w 4 8)
-    (o : Ordering) where
-  first : cmp (drop 4 v) (drop 4 w) ≡ thenby (compare x y) (cmp (drop 12 v) (drop 12 w))
-  first = rw (ex, ey) (cmp-word v w 4 8 bv bw (omega arith) (omega arith))
-
-  pub twelve-first : (x ≡ y → ⊥) → compare x y ≡ thenby (cmp (drop 4 v) (drop 4 w)) o
-  twelve-first ne = rw (first, firm x y (cmp (drop 12 v) (drop 12 w)) ne) (sym (firm x y o ne))
-
-  module _ (p q : ℕ) (ep : p ≡ beAt v 12 4) (eq : q ≡ beAt w 12 4) (same : x ≡ y) where
-    both : cmp (drop 4 v) (drop 4 w) ≡ compare p q
-    both =
-        first ∙ rw (compare-eq x y same, ep, eq) (cmp-word v w 12 4 bv bw (omega arith) (omega arith)
-        ∙ rw (none-left v w 16 hv hw) (still (compare (beAt v 12 4) (beAt w 12 4))))
-
-    pub twelve-second : (p ≡ q → ⊥) → compare p q ≡ thenby (cmp (drop 4 v) (drop 4 w)) o
-    twelve-second ne = rw both (sym (firm p q o ne))
-
-    pub twelve-equal : p ≡ q → o ≡ thenby (cmp (drop 4 v) (drop 4 w)) o
-    twelve-equal e = rw (both, compare-eq p q e)
-
--- n bytes of each as one number
-pub part-order : (a b : List ℕ) (i n : ℕ) → Bytes a → Bytes b → i + n ≤ length a → i + n ≤ length b → compare (beAt a i n) (beAt b i n)
-    ≡ cmp (take n (drop i a)) (take n (drop i b))
-part-order a b i n ba bb ha hb =
-    let p : List ℕ = take n (drop i a) in
-    let q : List ℕ = take n (drop i b) in
-    let lp : length p ≡ n = length-take-le n (drop i a) (simp length-drop (omega arith)) in
-    let lq : length q ≡ n = length-take-le n (drop i b) (simp length-drop (omega arith)) in
-    let ep : beAt p 0 n ≡ beAt a i n = rw (add-zero i) at (be-part a i n 0 n (omega arith)) in
-    let eq : beAt q 0 n ≡ beAt b i n = rw (add-zero i) at (be-part b i n 0 n (omega arith)) in
-    let whole : cmp p q ≡ thenby (compare (beAt p 0 n) (beAt q 0 n)) (cmp (drop (0 + n) p) (drop (0 + n) q)) = cmp-word p q 0 n (bytes-part a i n ba)
-    (bytes-part b i n bb) (omega arith) (omega arith) in
-    sym (whole ∙ rw (zero-add n, none-left p q n lp lq, ep, eq) (still (compare (beAt a i n) (beAt b i n))))
+  pub eight-equal : x ≡ y → o ≡ thenby (cmp (drop 4 v) (drop 4 w)) o
+  eight-equal e = rw (twelve, compare-eq x y e)

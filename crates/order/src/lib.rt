@@ -1,9 +1,10 @@
-// The byte order of two slices, and whether they are the same: equal blocks of 64 bytes are skipped, then words are compared, the last one
+// The byte order of two slices, and whether they are the same: equal runs of bytes are skipped, then words are compared, the last one
 // where the shorter slice ends, over bytes that were compared before.
 ghost use mathlib.Core.Path.{_≡_};
 ghost use mathlib.Core.Bool.{true, false};
 ghost use Prim.Native.Nat.{_+_, _≤_, _<_, min, compare};
-ghost use lib.ListN.{length, take, drop};
+ghost use lib.ListN.{length};
+ghost use Rattle.words.specs.Words.{beAt};
 ghost use Rattle.order.specs.Order.{cmp, same, shortOrder, ordering, Agree};
 
 pub enum Order {
@@ -25,33 +26,42 @@ pub fn by_word(x: u64, y: u64) -> Order
     Order::Equal
 }
 
-// Whether 64 bytes from i on are equal: no early exit, so that LLVM makes four SSE compares of it.
-fn same64(a: &[u8], b: &[u8], i: usize) -> bool
-    requires { ⌜ (i + 64 ≤ length (now a)) × (i + 64 ≤ length (now b)) ⌝ }
-    ensures { λ r. ⌜ (r ≡ true → Agree (now (a .entry)) (now (b .entry)) i 64) × (Agree (now (a .entry)) (now (b .entry)) i 64 → r ≡ true) ⌝ }
+// Whether m bytes from i on are equal: no early exit, so that LLVM makes SSE compares of it where m is a number.
+fn same_run(a: &[u8], b: &[u8], i: usize, m: usize) -> bool
+    requires { ⌜ (i + m ≤ length (now a)) × (i + m ≤ length (now b)) ⌝ }
+    ensures { λ r. ⌜ (r ≡ true → Agree (now (a .entry)) (now (b .entry)) i m) × (Agree (now (a .entry)) (now (b .entry)) i m → r ≡ true) ⌝ }
 {
     let mut d: u8 = 0;
     let mut k = 0;
-    while k < 64 {
+    while k < m {
         d = d | (a[i + k] ^ b[i + k]);
         k += 1;
     }
     d == 0
 }
 
-// A place at most n that equal blocks lead up to.
-fn skip(a: &[u8], b: &[u8], n: usize) -> usize
-    requires { ⌜ (n ≤ length (now a)) × (n ≤ length (now b)) ⌝ }
+// A place at most n that equal runs of m bytes lead up to, from a place before which all bytes are equal.
+fn skip(a: &[u8], b: &[u8], n: usize, at: usize, m: usize) -> usize
+    requires { ⌜ (n ≤ length (now a)) × (n ≤ length (now b)) × (at ≤ n) × (0 < m) × Agree (now a) (now b) 0 at ⌝ }
     ensures { λ r. ⌜ (r ≤ n) × Agree (now (a .entry)) (now (b .entry)) 0 r ⌝ }
 {
-    let mut i = 0;
-    while 64 <= n - i {
-        if !same64(a, b, i) {
+    let mut i = at;
+    while m <= n - i {
+        if !same_run(a, b, i, m) {
             break;
         }
-        i += 64;
+        i += m;
     }
     i
+}
+
+// A place at most n that equal bytes lead up to, from the ninth on: runs of 64, then of 16.
+fn skip_runs(a: &[u8], b: &[u8], n: usize) -> usize
+    requires { ⌜ (n ≤ length (now a)) × (n ≤ length (now b)) × (8 ≤ n) × Agree (now a) (now b) 0 8 ⌝ }
+    ensures { λ r. ⌜ (r ≤ n) × Agree (now (a .entry)) (now (b .entry)) 0 r ⌝ }
+{
+    let at = skip(a, b, n, 8, 64);
+    skip(a, b, n, at, 16)
 }
 
 // The order of two slices, the shorter of at least eight bytes, that are equal before `at`.
@@ -100,7 +110,12 @@ pub fn cmp(a: &[u8], b: &[u8]) -> Order
     if n < 8 {
         return by_bytes(a, b, n);
     }
-    by_words(a, b, n, skip(a, b, n))
+    let x = words::be64(a, 0);
+    let y = words::be64(b, 0);
+    if x != y {
+        return by_word(x, y);
+    }
+    by_words(a, b, n, skip_runs(a, b, n))
 }
 
 // Whether two slices of n bytes, at least eight, that are equal before `at` are the same.
@@ -143,31 +158,18 @@ pub fn same(a: &[u8], b: &[u8]) -> bool
     if n < 8 {
         return same_bytes(a, b, n);
     }
-    same_words(a, b, n, skip(a, b, n))
+    same_words(a, b, n, skip(a, b, n, 0, 64))
 }
 
-// The order of two views' four bytes.
-pub fn cmp_prefix(v: &[u8], w: &[u8]) -> Order
-    requires { ⌜ (8 ≤ length (now v)) × (8 ≤ length (now w)) ⌝ }
-    ensures { λ r. ⌜ ordering r ≡ cmp (take 4 (drop 4 (now (v .entry)))) (take 4 (drop 4 (now (w .entry)))) ⌝ }
-{
-    by_word(words::be32(v, 4), words::be32(w, 4))
-}
-
-// The order of two short views: their twelve bytes, as a word of eight and one of four, then their lengths.
+// The order of two short views whose first four bytes are equal: the other eight, then their lengths.
 pub fn cmp_short(v: &[u8], w: &[u8]) -> Order
-    requires { ⌜ (length (now v) ≡ 16) × (length (now w) ≡ 16) ⌝ }
+    requires { ⌜ (length (now v) ≡ 16) × (length (now w) ≡ 16) × (beAt (now v) 4 4 ≡ beAt (now w) 4 4) ⌝ }
     ensures { λ r. ⌜ ordering r ≡ shortOrder (now (v .entry)) (now (w .entry)) ⌝ }
 {
-    let x = words::be64(v, 4);
-    let y = words::be64(w, 4);
+    let x = words::be64(v, 8);
+    let y = words::be64(w, 8);
     if x != y {
         return by_word(x, y);
-    }
-    let p = words::be32(v, 12);
-    let q = words::be32(w, 12);
-    if p != q {
-        return by_word(p, q);
     }
     by_word(words::le32(v, 0), words::le32(w, 0))
 }

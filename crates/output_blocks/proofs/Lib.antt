@@ -1,1 +1,2 @@
+pub mod TabledLaws
 pub mod Only

@@ -26,7 +26,7 @@ use Rattle.showing.specs.Row as row
 use Rattle.showing.specs.Row.{short-row}
 use Rattle.showing.specs.Rooms.{both, passed}
 use Rattle.builder.specs.State.{Builder, rowsRoom, isOpen, allBlocks, used, blocksNow, fitsOpen, closed, complete, sized, makeRoom, lay, addRow, addRows}
-use Rattle.builder.specs.Values.{merges, hits, foundBy, found, whyLay, whyStore, whyRow, whyValues, enter, store, putFound, putValue, putValues, whyNull, putNull}
+use Rattle.builder.specs.Values.{merges, hits, foundBy, found, whyLay, whyStore, whyRows, whyValues, enter, store, putFound, putValue, putValues, whyNull, putNull}
 use Rattle.builder.specs.CallLaws.{put-many}
 use Rattle.promise.specs.Calls.{Cell, cell, no·value, bytesIn}
 use Rattle.promise.proofs.Fits.{Fits, grow, room-is, rooms-enter, sizes-complete, sizes-grow}
@@ -192,7 +192,7 @@ pub record Valued (n : ℕ) (b : Builder) (x : List ℕ) : Type 0 where
   pub stores : whyStore b x ≡ Accepted
 
 pub valued : (n : ℕ) (b : Builder) (x : List ℕ) → whyValues (suc n) b x ≡ Accepted → Valued n b x
-unfolding whyValues whyRow
+unfolding whyValues whyRows
 valued n b x w =
     let p = passed _ _ _ (rw (ne-eqb (suc n) 0 (λ e. omega arith)) at (passed _ _ _ w .1)) in
     let q = passed _ _ _ (p .1) in

@@ -1,10 +1,10 @@
 -- The ten worked examples hold: each side computes to the other. Assumes nothing.
 use mathlib.Core.Path.{refl}
 use Rattle.promise.proofs.Computed.{computed}
-use Rattle.promise.specs.Bench.{Bench, call·each, taken·each, built, compact, lengthsAt}
+use Rattle.promise.specs.Bench.{Bench, call·each, taken·each, benchBuilt, compact, lengthsAt}
 
 pub bench : Bench
-unfolding computed call·each taken·each built compact lengthsAt
+unfolding computed call·each taken·each benchBuilt compact lengthsAt
 bench =
     record {
       empty = refl;

@@ -21,7 +21,7 @@ use Rattle.column.specs.declared.Column.{Column}
 use Rattle.column.specs.Lent.{Lent, blockAt, inData, allInData, fits, blockRoom, dataRoom}
 use Rattle.column.specs.FitLaws.{in-data-gives}
 use Rattle.laying.specs.WrittenLaws.{flat-snoc}
-use Rattle.column.specs.Meaning.{rowView, blocksOf, shown, shownAt, validAt}
+use Rattle.column.specs.Meaning.{rowView, blocksOf, shown, shownAt, rowValid}
 use Rattle.column.specs.Truth.{ofKind, trueAt}
 use Rattle.column.specs.TruthLaws.{true-of}
 use Rattle.column.specs.Laid.{rowsOf, flat}
@@ -258,14 +258,14 @@ module _ {m : ℕ} (b : Builder) (xs : List Cell) (l : Lent) (c : Column) (i : I
       let p = joins n (omega arith) in
       let d : Builder = addColumn n (allBlocks (b .state)) l c base in
       let v : List ℕ = renumbered (allBlocks (b .state)) (rowView l c n) in
-      let one : Inv m (addRow v (validAt l c n) d) ((xs ++ rowsOf (cellOf l c) n) ++ cellOf l c n ∷ []) =
+      let one : Inv m (addRow v (rowValid l c n) d) ((xs ++ rowsOf (cellOf l c) n) ++ cellOf l c n ∷ []) =
       inv-row d (xs ++ rowsOf (cellOf l c) n) v (cellOf l c n) (p .inv) (rw (p .now) (shows-here n (omega arith))) (rw (p .kind) (kind-there n (omega arith)))
       (omega (arith, p .rows, p .inv .room, i .room, j .rows)) in
       record {
-        inv = subst (λ (ys : List Cell). Inv m (addRow v (validAt l c n) d) ys) (append-assoc xs (rowsOf (cellOf l c) n) (cellOf l c n ∷ [])) one;
-        now = now-row v (validAt l c n) d ∙ p .now;
-        kind = row-kind v (validAt l c n) d ∙ p .kind;
-        rows = row-rows v (validAt l c n) d ∙ omega (arith, p .rows);
+        inv = subst (λ (ys : List Cell). Inv m (addRow v (rowValid l c n) d) ys) (append-assoc xs (rowsOf (cellOf l c) n) (cellOf l c n ∷ [])) one;
+        now = now-row v (rowValid l c n) d ∙ p .now;
+        kind = row-kind v (rowValid l c n) d ∙ p .kind;
+        rows = row-rows v (rowValid l c n) d ∙ omega (arith, p .rows);
       }
 
   pub inv-column : Inv m (putColumn l c b) (xs ++ rowsOf (cellOf l c) (c .rows))

@@ -25,7 +25,7 @@ use Rattle.column.specs.Laid.{rowsOf, bitsOf}
 use Rattle.showing.specs.Rooms.{passed, all-passed, both}
 use Rattle.showing.specs.Truths.{AllIn}
 use Rattle.showing.specs.Shows.{Shows, true-rows}
-use Rattle.reading.specs.Reading.{whyColumn, bufferBytes, totalBufferBytesUsed}
+use Rattle.reading.specs.Reading.{whyFit, bufferBytes, totalBufferBytesUsed}
 use Rattle.reading.specs.declared.Number.the-variants as number
 use Rattle.validity.specs.Check.{whyInvalid}
 use Rattle.laying.specs.Rooms.{whyRooms}
@@ -35,7 +35,7 @@ use Rattle.compaction.specs.Compact.{longOf, longLens, newLens, whyCompact, com
 use Rattle.compaction.specs.LaidLaws.{lens-total}
 use Rattle.compaction.proofs.Compacted.{room, compacted-alike, compacted-true}
 use Rattle.compaction.proofs.Bound.{compacted-bounded}
-use Rattle.promise.specs.Compactions.{Alike, lensIn, Compactions}
+use Rattle.promise.specs.Compactions.{Alike, lensOfFirst, Compactions}
 use Rattle.promise.proofs.Answers.{why-shows, value-shows, bit-shows, compare-shows}
 use Rattle.promise.proofs.Finishing.{all-inside}
 use Rattle.promise.proofs.Twice.{twice, table-front-is}
@@ -124,11 +124,11 @@ module _ (most : ℕ) (l : Lent) (c : Column) (out : Lent) where
           all-inside m n (s .inside),
         )
 
-    new-lens : lensIn (compacted most l c out) (length (newLens most l c)) ≡ newLens most l c
+    new-lens : lensOfFirst (compacted most l c out) (length (newLens most l c)) ≡ newLens most l c
     new-lens = ap (map (λ (b : Block). b .len)) (table-front-is most l c out) ∙ lens-records 0 (newLens most l c)
 
-    used : totalBufferBytesUsed l c ≡ number.Is (total (lensIn (compacted most l c out) (compactColumn most l c .blocks)))
-    unfolding totalBufferBytesUsed whyColumn refuse
+    used : totalBufferBytesUsed l c ≡ number.Is (total (lensOfFirst (compacted most l c out) (compactColumn most l c .blocks)))
+    unfolding totalBufferBytesUsed whyFit refuse
     used = rw (room most l c out a .fitted) (ap number.Is (buffer-total l c (c .rows) ∙ sym (lens-total most (longLens l c (c .rows)))
         ∙ ap total (sym new-lens)))
 

@@ -11,11 +11,11 @@ use Rattle.builder.specs.State.{Builder}
 use Rattle.builder.specs.Start.{start}
 use Rattle.builder.specs.Values.{whyValues, putValues}
 use Rattle.column.specs.Lent.{Lent}
-use Rattle.promise.specs.Calls.{Item, value, null, bytesOf, add·values, Entry, values, call, appended, Ran, none, more}
+use Rattle.promise.specs.Calls.{Item, value, null, itemBytes, add·values, Entry, values, call, appended, Ran, none, more}
 use Rattle.promise.specs.Made.{Made, built}
 use Rattle.promise.proofs.Gets.{is-accepted}
 use Rattle.promise.proofs.Promised.{promised}
-use Rattle.promise.specs.Library.{defined, appendAll, accepts, lentBy, columnBy, Passes, Meets}
+use Rattle.promise.specs.Library.{defined, appendAll, accepts, lentBy, libraryColumn, Passes, Meets}
 
 one-each : List (List ℕ) → List Entry
 one-each xs = map (values 1) xs
@@ -25,7 +25,7 @@ unfolding appended one-each
 items [] = refl
 items (x ∷ xs) = ap (λ (ys : List Item). value x ∷ ys) (items xs)
 
-item-at : (xs : List (List ℕ)) (i : ℕ) → i < length xs → bytesOf (getD (map value xs) i null) ≡ getD xs i []
+item-at : (xs : List (List ℕ)) (i : ℕ) → i < length xs → itemBytes (getD (map value xs) i null) ≡ getD xs i []
 item-at [] i h = absurd (omega arith)
 item-at (x ∷ xs) zero h = refl
 item-at (x ∷ xs) (suc i) h = item-at xs i (omega arith)
@@ -42,7 +42,7 @@ run (x ∷ xs) b e = go (isAccepted (whyValues 1 b x)) refl e (run xs (putValues
     go false w e rest = absurd (true≢false (sym e))
 
 module _ (xs : List (List ℕ)) (t : Settings) (l : Lent) (places : List ℕ) (p : Passes defined xs t l places) where
-  made : Made (map value xs) (lentBy defined xs t l places) (columnBy defined xs t l places)
+  made : Made (map value xs) (lentBy defined xs t l places) (libraryColumn defined xs t l places)
   made =
       built t l places (one-each xs) (appendAll defined xs (start t l places)) (p .start) (items xs) (run xs (start t l places) (p .values)) (p .finish)
 

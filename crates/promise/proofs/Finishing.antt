@@ -18,7 +18,7 @@ use Rattle.views.specs.View.{viewAt}
 use Rattle.column.specs.declared.Kind.{Kind}
 use Rattle.column.specs.declared.Column.{Column}
 use Rattle.column.specs.Lent.{Lent, rowRoom, blockRoom, allInData, inData}
-use Rattle.column.specs.Meaning.{rowView, blocksOf, validAt}
+use Rattle.column.specs.Meaning.{rowView, blocksOf, rowValid}
 use Rattle.column.specs.Truth.{ofKind, trueAt}
 use Rattle.column.specs.LowestLaws.{lowest-none}
 use Rattle.column.specs.Laid.{rowsOf, viewsOf, bitsOf}
@@ -119,9 +119,9 @@ module _ {m : ℕ} (b : Builder) (xs : List Cell) (i : Inv m b xs) where
   same-views = rows-same (rowView (finished b .lent) (columnOf b)) (viewAt (b .lent .views)) (b .state .rows) (λ r h. ap (viewAt (b .lent .views)) (zero-add r))
 
   same-bits : bitsOf (finished b .lent) (columnOf b) ≡ map validIn xs
-  unfolding bitsOf validAt finished recorded
+  unfolding bitsOf rowValid finished recorded
   same-bits =
-      rows-same (validAt (finished b .lent) (columnOf b)) (bits.validAt (b .lent .nulls) (b .state .nulled)) (b .state .rows)
+      rows-same (rowValid (finished b .lent) (columnOf b)) (bits.validAt (b .lent .nulls) (b .state .nulled)) (b .state .rows)
       (λ r h. ap (bits.validAt (b .lent .nulls) (b .state .nulled)) (zero-add r))
       ∙ bits-by (b .lent .nulls) (b .state .rows) xs (rows-are b xs i) (i .bits) (b .state .nulled) (i .nulled)
 

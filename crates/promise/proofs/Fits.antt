@@ -111,7 +111,7 @@ unfolding addRow rowsRoom rowRoom blockRoom dataRoom
 sizes-row v valid b e h =
     let k : 16 * b .state .rows + 16 ≤ length (b .lent .views) = omega (arith, row-views b) in
     record {
-      rows = rw (length-paste (b .lent .views) (16 * b .state .rows) v 16 k (omega arith), bits.length-put (b .lent .nulls) (b .state .rows) valid);
+      rows = rw (length-paste (b .lent .views) (16 * b .state .rows) v 16 k (omega arith), bits.length-put-bit (b .lent .nulls) (b .state .rows) valid);
       blocks = refl;
       bytes = refl;
     }

@@ -25,7 +25,7 @@ use Rattle.builder.specs.State.{Builder, rowsRoom}
 use Rattle.builder.specs.Start.{start}
 use Rattle.builder.specs.Get.{columnOf}
 use Rattle.builder.specs.Finish.{whyFinish, copied, finished}
-use Rattle.promise.specs.Calls.{Cell, cell, no·value, bytesIn, validIn, Call, add·values, add·null, add·block, add·view, add·column, finish·copy, finish, why, put, after, rowsAfter, Ran, none, more}
+use Rattle.promise.specs.Calls.{Cell, cell, no·value, bytesIn, validIn, Call, add·values, add·null, add·block, add·view, add·column, finish·copy, finish, why, put, cellsAfter, rowsAfter, Ran, none, more}
 use Rattle.promise.specs.Kept.{Keeps, Filed, done, converted, again, Shown, Reached, by·calls, Kept}
 use Rattle.promise.proofs.Answers.{why-shows, value-shows, bit-shows, compare-shows}
 use Rattle.promise.proofs.Fits.{are-fits}
@@ -42,7 +42,7 @@ use Rattle.promise.proofs.Standing.{done-block, stays-put}
 none-more : {m : ℕ} (b : Builder) (xs : List Cell) → Inv m b xs → Inv m b (xs ++ [])
 none-more {m} b xs i = subst (λ (ys : List Cell). Inv m b ys) (sym (append-nil xs)) i
 
-pub inv-put : {m : ℕ} (c : Call) (b : Builder) (xs : List Cell) → Inv m b xs → why c b ≡ Accepted → Inv m (put c b) (after c b xs)
+pub inv-put : {m : ℕ} (c : Call) (b : Builder) (xs : List Cell) → Inv m b xs → why c b ≡ Accepted → Inv m (put c b) (cellsAfter c b xs)
 inv-put (add·values n x) b xs i w = inv-values n b xs x i w
 inv-put add·null b xs i w = inv-null b xs i w
 inv-put (add·block x) b xs i w = none-more _ xs (inv-block b xs x i w)
@@ -54,7 +54,7 @@ inv-put finish b xs i w = inv-finish b xs i
 pub inv-ran : {m : ℕ} {cs : List Call} {b e : Builder} (xs : List Cell) → Ran cs b e → Inv m b xs → Inv m e (rowsAfter cs b xs)
 unfolding rowsAfter
 inv-ran xs none i = i
-inv-ran xs (more {c = c} {cs} {b} w r) i = inv-ran (after c b xs) r (inv-put c b xs i w)
+inv-ran xs (more {c = c} {cs} {b} w r) i = inv-ran (cellsAfter c b xs) r (inv-put c b xs i w)
 
 -- ---- what a column that shows cells answers
 

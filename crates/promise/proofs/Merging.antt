@@ -31,7 +31,7 @@ use Rattle.builder.specs.Start.{cleared, start}
 use Rattle.builder.specs.Values.{merges, hits, foundBy, found, whyValues, store, putFound, putValue, putValues, putNull}
 use Rattle.builder.specs.Others.{layBlock, layBlocks, blockBytes, putBlock, viewed, putView, addColumn, putColumn}
 use Rattle.builder.specs.Finish.{copied, finished}
-use Rattle.promise.specs.Calls.{Cell, cell, no·value, bytesIn, Call, add·values, add·null, add·block, add·view, add·column, finish·copy, finish, why, put, added}
+use Rattle.promise.specs.Calls.{Cell, cell, no·value, bytesIn, Call, add·values, add·null, add·block, add·view, add·column, finish·copy, finish, why, put, cellsAdded}
 use Rattle.promise.specs.Merged.{Memo, memo, shownBy, target, storedBy, recall, again, Takes}
 use Rattle.promise.proofs.Fits.{row-views, grow, room-is}
 use Rattle.promise.proofs.Steps.{Inv}
@@ -355,10 +355,10 @@ table-finish m b e =
 pub table-put : (m : Merging) (b : Builder) (k : Memo) → Table m b k → Reads b (k .rows) → (c : Call) → why c b ≡ Accepted → Table m (put c b) (recall m c b k)
 table-put m b k g s (add·values zero x) w = table-none m b k g s x
 table-put m b k g s (add·values (suc n) x) w = table-values m b k g s n x w
-table-put m b k g s add·null w = table-more m b k g s (putNull b) 1 (added add·null b) (adds-null m b k g s)
+table-put m b k g s add·null w = table-more m b k g s (putNull b) 1 (cellsAdded add·null b) (adds-null m b k g s)
 table-put m b k g s (add·block x) w = table-more m b k g s (putBlock x b) 0 [] (adds-block m b k g s x)
-table-put m b k g s (add·view block offset n) w = table-more m b k g s (putView block offset n b) 1 (added (add·view block offset n) b)
+table-put m b k g s (add·view block offset n) w = table-more m b k g s (putView block offset n b) 1 (cellsAdded (add·view block offset n) b)
     (adds-view m b k g s block offset n)
-table-put m b k g s (add·column l c) w = table-more m b k g s (putColumn l c b) (c .rows) (added (add·column l c) b) (adds-whole m b k g s l c)
+table-put m b k g s (add·column l c) w = table-more m b k g s (putColumn l c b) (c .rows) (cellsAdded (add·column l c) b) (adds-whole m b k g s l c)
 table-put m b k g s finish·copy w = table-more m b k g s (copied b) 0 [] (adds-copy m b k g s)
 table-put m b k g s finish w = table-finish m b (g .setting)

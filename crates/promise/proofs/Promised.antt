@@ -8,7 +8,7 @@ use Rattle.column.specs.declared.Column.{Column}
 use Rattle.column.specs.Lent.{Lent}
 use Rattle.builder.specs.State.{Builder}
 use Rattle.compaction.proofs.Bound.{compacted-bounded}
-use Rattle.promise.specs.Calls.{Cell, cell, no·value, rowsAfter, Item, value, null, bytesOf, isValue, cellFor, Entry, values, nulls, call, appended}
+use Rattle.promise.specs.Calls.{Cell, cell, no·value, rowsAfter, Item, value, null, itemBytes, isValue, cellFor, Entry, values, nulls, call, appended}
 use Rattle.promise.specs.Kept.{Filed, done}
 use Rattle.promise.specs.Kept as files
 use Rattle.promise.specs.Made.{Made, built, again, Faithful, Ordered, Promise}
@@ -31,7 +31,7 @@ pub filed : (xs : List Item) {l : Lent} {c : Column} → Made xs l c → Filed (
 filed xs (built t l places cs b w e r f) = done t l places (map call cs) b w r (rows-for cs _ [] ∙ ap (map cellFor) e)
 filed xs (again most out d w) = files.again most out (filed xs d) w
 
-for-bytes : (x : Item) → cellFor x .bytes ≡ bytesOf x
+for-bytes : (x : Item) → cellFor x .bytes ≡ itemBytes x
 for-bytes (value x) = refl
 for-bytes null = refl
 
@@ -43,7 +43,7 @@ module _ (xs : List Item) where
   item-at : (i : ℕ) → getD (map cellFor xs) i no·value ≡ cellFor (getD xs i null)
   item-at i = List·getD-map cellFor xs i null
 
-  item-bytes : (i : ℕ) → getD (map cellFor xs) i no·value .bytes ≡ bytesOf (getD xs i null)
+  item-bytes : (i : ℕ) → getD (map cellFor xs) i no·value .bytes ≡ itemBytes (getD xs i null)
   item-bytes i = rw (item-at i) (for-bytes (getD xs i null))
 
   item-bit : (i : ℕ) → getD (map cellFor xs) i no·value .valid ≡ isValue (getD xs i null)

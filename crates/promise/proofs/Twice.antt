@@ -16,7 +16,7 @@ use Rattle.showing.specs.Stores.{getD-rows, rows-same}
 use Rattle.showing.specs.Shows.{shows-row}
 use Rattle.laying.specs.WrittenLaws.{length-records, records}
 use Rattle.compaction.specs.Cut.{cutLens}
-use Rattle.compaction.specs.Compact.{longOf, valueAt, newView, newLens, whyCompact, compacted, compactColumn}
+use Rattle.compaction.specs.Compact.{longOf, rowShown, newView, newLens, whyCompact, compacted, compactColumn}
 use Rattle.compaction.specs.LaidLaws.{view-short, view-long}
 use Rattle.compaction.proofs.Kept.{fills, blocksOut}
 use Rattle.compaction.proofs.Compacted.{room, old-row, views-back, blocks-back, compacted-alike, compacted-shows}
@@ -63,7 +63,7 @@ module _ (most : ℕ) (l : Lent) (c : Column) (out : Lent) (a : whyCompact most 
   abbrev column : Column
   column = compactColumn most l c
 
-  value-again : (r : ℕ) → r < c .rows → valueAt new column r ≡ valueAt l c r
+  value-again : (r : ℕ) → r < c .rows → rowShown new column r ≡ rowShown l c r
   unfolding shownAt
   value-again r h = shows-row (compacted-alike most l c out a) r h .val ∙ getD-rows (shownAt l c) (c .rows) r [] h
 
@@ -88,15 +88,15 @@ module _ (most : ℕ) (l : Lent) (c : Column) (out : Lent) (a : whyCompact most 
   view-again r h = by (isShort (lengthOf (rowView l c r))) refl
     where
       by : (t : Bool) → isShort (lengthOf (rowView l c r)) ≡ t → newView most new column r ≡ newView most l c r
-      by true e = view-short most (rowView new column) (valueAt new column) r (rw (length-again r h) e) ∙ view-new r h
+      by true e = view-short most (rowView new column) (rowShown new column) r (rw (length-again r h) e) ∙ view-new r h
       by false e =
           let lens : longOf (λ q. lengthOf (rowView new column q)) (λ q. lengthOf (rowView new column q)) r ≡ longOf (λ q. lengthOf (rowView l c q))
           (λ q. lengthOf (rowView l c q)) r =
           long-same (λ q. lengthOf (rowView new column q)) (λ q. lengthOf (rowView l c q)) (λ q. lengthOf (rowView new column q))
           (λ q. lengthOf (rowView l c q)) r
           (λ q k. length-again q (omega arith)) (λ q k. length-again q (omega arith)) in
-          view-long most (rowView new column) (valueAt new column) r (rw (length-again r h) e)
-          ∙ rw (length-again r h, lens, value-again r h) (sym (view-long most (rowView l c) (valueAt l c) r e))
+          view-long most (rowView new column) (rowShown new column) r (rw (length-again r h) e)
+          ∙ rw (length-again r h, lens, value-again r h) (sym (view-long most (rowView l c) (rowShown l c) r e))
 
   pub twice : (out₂ : Lent) → whyCompact most new column out₂ ≡ Accepted → Unchanged new column (compacted most new column out₂) (compactColumn most new column)
   twice out₂ b =
@@ -111,7 +111,7 @@ module _ (most : ℕ) (l : Lent) (c : Column) (out : Lent) (a : whyCompact most 
             ∙ ap (records 0) lens-again ∙ sym (table-front-is most l c out);
         blocks =
             ap (λ (ns : List ℕ). blocksOf (compacted most new column out₂) (length ns)) (sym lens-again) ∙ blocks-back most new column out₂ more
-            ∙ blocks-same most (rowView new column) (rowView l c) (valueAt new column) (valueAt l c) (c .rows) length-again value-again
+            ∙ blocks-same most (rowView new column) (rowView l c) (rowShown new column) (rowShown l c) (c .rows) length-again value-again
             ∙ sym (blocks-back most l c out once);
         bits = compacted-shows most new column out₂ (compacted-alike most l c out a) b .bits ∙ sym (compacted-alike most l c out a .bits);
       }

@@ -19,7 +19,7 @@ use Rattle.builder.specs.declared.Sizes.the-variants.{Doubled}
 use Rattle.builder.specs.State.{Builder, builder, addRow}
 use Rattle.builder.specs.Values.{whyValues, putValues}
 use Rattle.builder.specs.Get.{columnOf}
-use Rattle.promise.specs.Bench.{mar, may, zeroed, plain, fresh}
+use Rattle.promise.specs.Bench.{mar, may, benchLent, plain, fresh}
 use Rattle.promise.specs.Library.{Library, library, appendAll, accepts, Meets}
 use Rattle.promise.proofs.Computed.{computed}
 
@@ -41,7 +41,7 @@ equating = library (whyValues 1) (putValues 1) columnOf (λ l c i m d j. compare
 pub not-equating : Meets equating → ⊥
 unfolding computed appendAll accepts
 not-equating m =
-    let e : compared.Is Equal ≡ compared.Is Less = m .orders {t = plain Doubled} {l = zeroed} {places = []} (mar ∷ may ∷ []) 0 1
+    let e : compared.Is Equal ≡ compared.Is Less = m .orders {t = plain Doubled} {l = benchLent} {places = []} (mar ∷ may ∷ []) 0 1
     (record { start = refl; values = refl; finish = refl }) (lit< tt) (lit< tt) in
     let z : _≡_ {A = ℕ} 0 1 = cc in
     omega arith
@@ -53,7 +53,7 @@ idle = library (whyValues 1) (λ x b. builder (putValues 1 x b .state) (b .lent)
 pub not-idle : Meets idle → ⊥
 unfolding computed appendAll accepts
 not-idle m =
-    let e : _≡_ {A = List ℕ} [] (65 ∷ []) = m .shows {t = plain Doubled} {l = zeroed} {places = []} ((65 ∷ []) ∷ []) 0
+    let e : _≡_ {A = List ℕ} [] (65 ∷ []) = m .shows {t = plain Doubled} {l = benchLent} {places = []} ((65 ∷ []) ∷ []) 0
     (record { start = refl; values = refl; finish = refl }) (lit< tt) in
     let z : _≡_ {A = ℕ} 0 1 = cc in
     omega arith
@@ -67,7 +67,7 @@ faking =
 pub not-faking : Meets faking → ⊥
 unfolding computed appendAll accepts
 not-faking m =
-    let e : mar ≡ may = m .shows {t = plain Doubled} {l = zeroed} {places = []} (mar ∷ may ∷ []) 1
+    let e : mar ≡ may = m .shows {t = plain Doubled} {l = benchLent} {places = []} (mar ∷ may ∷ []) 1
     (record { start = refl; values = refl; finish = refl }) (lit< tt) in
     let z : _≡_ {A = ℕ} 82 89 = cc in
     omega arith
@@ -92,7 +92,7 @@ of·nulls = library (whyValues 1) (putValues 1) columnOf compareRows (λ l c fir
 pub not-nulls : Meets of·nulls → ⊥
 unfolding computed
 not-nulls m =
-    let e : number.Is 3 ≡ number.Is 0 = m .nulls zeroed (columnOf (fresh Doubled)) 0 0 in
+    let e : number.Is 3 ≡ number.Is 0 = m .nulls benchLent (columnOf (fresh Doubled)) 0 0 in
     let z : _≡_ {A = ℕ} 3 0 = cc in
     omega arith
 
@@ -102,6 +102,6 @@ of·bytes = library (whyValues 1) (putValues 1) columnOf compareRows nullRun (λ
 pub not-bytes : Meets of·bytes → ⊥
 unfolding computed
 not-bytes m =
-    let e : number.Is 3 ≡ number.Is 0 = m .bytes zeroed (columnOf (fresh Doubled)) in
+    let e : number.Is 3 ≡ number.Is 0 = m .bytes benchLent (columnOf (fresh Doubled)) in
     let z : _≡_ {A = ℕ} 3 0 = cc in
     omega arith

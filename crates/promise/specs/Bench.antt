@@ -40,14 +40,14 @@ abbrev pub twelve : List ℕ
 twelve = 82 ∷ 79 ∷ 45 ∷ 56 ∷ 48 ∷ 52 ∷ 48 ∷ 45 ∷ 48 ∷ 51 ∷ 48 ∷ 51 ∷ []
 
 -- room for four rows, four blocks and 64 bytes
-abbrev pub zeroed : Lent
-zeroed = buffers (replicate 64 0) (replicate 64 0) (replicate 4 (block 0 0)) (replicate 1 0)
+abbrev pub benchLent : Lent
+benchLent = buffers (replicate 64 0) (replicate 64 0) (replicate 4 (block 0 0)) (replicate 1 0)
 
 abbrev pub plain : Sizes → Settings
 plain sizes = record { kind = Binary; sizes = sizes; merging = Off }
 
 abbrev pub fresh : Sizes → Builder
-fresh sizes = start (plain sizes) zeroed []
+fresh sizes = start (plain sizes) benchLent []
 
 -- the value calls, one after the other, and whether they and the finish are accepted
 unfoldable pub call·each : List (List ℕ) → Builder → Builder
@@ -64,20 +64,20 @@ pub record Finished : Type 0 where
   pub column : Column
 
 -- no rows and no blocks
-abbrev pub nothing : Finished
-nothing = record { lent = zeroed; column = record { first = 0; rows = 0; blocks = 0; kind = Binary; mapped = false } }
+abbrev pub nothingBuilt : Finished
+nothingBuilt = record { lent = benchLent; column = record { first = 0; rows = 0; blocks = 0; kind = Binary; mapped = false } }
 
 -- built of values; nothing where one is refused
-unfoldable pub built : Sizes → List (List ℕ) → Finished
-built sizes xs =
+unfoldable pub benchBuilt : Sizes → List (List ℕ) → Finished
+benchBuilt sizes xs =
     let b = call·each xs (fresh sizes) in
-    pick (taken·each xs (fresh sizes)) (record { lent = finished b .lent; column = columnOf b }) nothing
+    pick (taken·each xs (fresh sizes)) (record { lent = finished b .lent; column = columnOf b }) nothingBuilt
 
 -- compacted at a maximum; nothing where that is refused
 unfoldable pub compact : ℕ → Finished → Finished
 compact most f =
-    ifAccepted (whyCompact most (f .lent) (f .column) zeroed)
-    (record { lent = compacted most (f .lent) (f .column) zeroed; column = compactColumn most (f .lent) (f .column) }) nothing
+    ifAccepted (whyCompact most (f .lent) (f .column) benchLent)
+    (record { lent = compacted most (f .lent) (f .column) benchLent; column = compactColumn most (f .lent) (f .column) }) nothingBuilt
 
 abbrev pub viewIn : Finished → ℕ → List ℕ
 viewIn f r = rowView (f .lent) (f .column) r
@@ -92,13 +92,13 @@ lengthsIn f = rowsOf (λ k. blockAt (f .lent) k .len) (f .column .blocks)
 
 -- values of these lengths, stored by doubling, and compacted at a maximum: the lengths of the blocks
 unfoldable pub lengthsAt : ℕ → List ℕ → List ℕ
-lengthsAt most ns = lengthsIn (compact most (built Doubled (map (λ n. replicate n 65) ns)))
+lengthsAt most ns = lengthsIn (compact most (benchBuilt Doubled (map (λ n. replicate n 65) ns)))
 
 abbrev pub codes : Sizes → Finished
-codes sizes = built sizes (mar ∷ may ∷ [])
+codes sizes = benchBuilt sizes (mar ∷ may ∷ [])
 
 abbrev pub alone : List ℕ → Finished
-alone x = built Doubled (x ∷ [])
+alone x = benchBuilt Doubled (x ∷ [])
 
 abbrev pub below : List ℕ → List ℕ → Type 0
 below x y = compareRows (alone x .lent) (alone x .column) 0 (alone y .lent) (alone y .column) 0 ≡ compared.Is Less

@@ -8,7 +8,7 @@ use Rattle.bounds.specs.declared.Why.{Why}
 use Rattle.bounds.specs.declared.Why.the-variants.{Accepted}
 use Rattle.column.specs.declared.Column.{Column}
 use Rattle.column.specs.Lent.{Lent}
-use Rattle.column.specs.Meaning.{shownAt, validAt}
+use Rattle.column.specs.Meaning.{shownAt, rowValid}
 use Rattle.column.specs.Laid.{rowsOf}
 use Rattle.builder.specs.State.{Builder}
 use Rattle.builder.specs.Values.{whyValues, putValues, whyNull, putNull}
@@ -69,35 +69,35 @@ no·value = cell [] false
 
 -- what row r of a column shows there, with its bit
 abbrev pub cellOf : Lent → Column → ℕ → Cell
-cellOf l c r = cell (shownAt l c r) (validAt l c r)
+cellOf l c r = cell (shownAt l c r) (rowValid l c r)
 
 -- what a call puts in the rows that it adds: a value its bytes, a view the named part of its block, a column what its rows show
-abbrev pub added : Call → Builder → List Cell
-added (add·values n x) b = replicate n (cell x true)
-added add·null b = no·value ∷ []
-added (add·block x) b = []
-added (add·view k offset n) b = cell (viewed b k offset n) true ∷ []
-added (add·column l c) b = rowsOf (cellOf l c) (c .rows)
-added finish·copy b = []
-added finish b = []
+abbrev pub cellsAdded : Call → Builder → List Cell
+cellsAdded (add·values n x) b = replicate n (cell x true)
+cellsAdded add·null b = no·value ∷ []
+cellsAdded (add·block x) b = []
+cellsAdded (add·view k offset n) b = cell (viewed b k offset n) true ∷ []
+cellsAdded (add·column l c) b = rowsOf (cellOf l c) (c .rows)
+cellsAdded finish·copy b = []
+cellsAdded finish b = []
 
 -- only finish takes the rows before away
-abbrev pub stays : Call → List Cell → List Cell
-stays (add·values n x) xs = xs
-stays add·null xs = xs
-stays (add·block x) xs = xs
-stays (add·view k offset n) xs = xs
-stays (add·column l c) xs = xs
-stays finish·copy xs = xs
-stays finish xs = []
+abbrev pub cellsKept : Call → List Cell → List Cell
+cellsKept (add·values n x) xs = xs
+cellsKept add·null xs = xs
+cellsKept (add·block x) xs = xs
+cellsKept (add·view k offset n) xs = xs
+cellsKept (add·column l c) xs = xs
+cellsKept finish·copy xs = xs
+cellsKept finish xs = []
 
-abbrev pub after : Call → Builder → List Cell → List Cell
-after c b xs = stays c xs ++ added c b
+abbrev pub cellsAfter : Call → Builder → List Cell → List Cell
+cellsAfter c b xs = cellsKept c xs ++ cellsAdded c b
 
 -- what was put in the rows by calls from a builder on, whose rows had xs in them
 unfoldable pub rowsAfter : List Call → Builder → List Cell → List Cell
 rowsAfter [] b xs = xs
-rowsAfter (c ∷ cs) b xs = rowsAfter cs (put c b) (after c b xs)
+rowsAfter (c ∷ cs) b xs = rowsAfter cs (put c b) (cellsAfter c b xs)
 
 -- ---- values and nulls alone
 
@@ -106,9 +106,9 @@ pub data Item : Type 0 where
   null : Item
 
 -- a null counts as empty
-abbrev pub bytesOf : Item → List ℕ
-bytesOf (value x) = x
-bytesOf null = []
+abbrev pub itemBytes : Item → List ℕ
+itemBytes (value x) = x
+itemBytes null = []
 
 abbrev pub isValue : Item → Bool
 isValue (value x) = true

@@ -30,8 +30,8 @@ pub record Alike (l : Lent) (c : Column) (m : Lent) (d : Column) : Type 0 where
   pub compared : (n : Lent) (e : Column) → whyInvalid n e ≡ Accepted → (i j : ℕ) → i < c .rows → j < e .rows → compareRows n e j m d i ≡ compareRows n e j l c i
 
 -- the lengths of the first n blocks
-abbrev pub lensIn : Lent → ℕ → List ℕ
-lensIn l n = map (λ (b : Block). b .len) (take n (l .table))
+abbrev pub lensOfFirst : Lent → ℕ → List ℕ
+lensOfFirst l n = map (λ (b : Block). b .len) (take n (l .table))
 
 -- one column is the other, view for view, record for record, and byte for byte of each block; only the buffers behind it may differ
 pub record Unchanged (l : Lent) (c : Column) (m : Lent) (d : Column) : Type 0 where
@@ -54,7 +54,7 @@ pub record Compactions : Type 0 where
       (compactColumn most l c)
   -- the new blocks have as many bytes as `total_buffer_bytes_used` says of the source
   pub used : (most : ℕ) (l : Lent) (c : Column) (out : Lent) → whyCompact most l c out ≡ Accepted
-      → totalBufferBytesUsed l c ≡ number.Is (total (lensIn (compacted most l c out) (compactColumn most l c .blocks)))
+      → totalBufferBytesUsed l c ≡ number.Is (total (lensOfFirst (compacted most l c out) (compactColumn most l c .blocks)))
   pub again : (most : ℕ) (l : Lent) (c : Column) (out out₂ : Lent) → whyCompact most l c out ≡ Accepted → whyCompact most (compacted most l c out)
       (compactColumn most l c) out₂ ≡ Accepted
       → Unchanged (compacted most l c out) (compactColumn most l c) (compacted most (compacted most l c out) (compactColumn most l c) out₂)

@@ -53,8 +53,8 @@ accepts L (x ∷ xs) b = isAccepted (L .why b x) && accepts L xs (L .append x b)
 abbrev pub lentBy : Library → List (List ℕ) → Settings → Lent → List ℕ → Lent
 lentBy L xs t l places = finished (appendAll L xs (start t l places)) .lent
 
-abbrev pub columnBy : Library → List (List ℕ) → Settings → Lent → List ℕ → Column
-columnBy L xs t l places = L .finish (appendAll L xs (start t l places))
+abbrev pub libraryColumn : Library → List (List ℕ) → Settings → Lent → List ℕ → Column
+libraryColumn L xs t l places = L .finish (appendAll L xs (start t l places))
 
 -- nothing was refused
 pub record Passes (L : Library) (xs : List (List ℕ)) (t : Settings) (l : Lent) (places : List ℕ) : Type 0 where
@@ -71,7 +71,7 @@ pub record Meets (L : Library) : Type 0 where
   pub bytes : (l : Lent) (c : Column) → L .bytes l c ≡ totalBytesLen l c
   -- the third, if nothing was refused: every row shows what was appended, and rows compare as that
   pub shows : {t : Settings} {l : Lent} {places : List ℕ} (xs : List (List ℕ)) (i : ℕ) → Passes L xs t l places → i < length xs
-      → valueAt (lentBy L xs t l places) (columnBy L xs t l places) i ≡ getD xs i []
+      → valueAt (lentBy L xs t l places) (libraryColumn L xs t l places) i ≡ getD xs i []
   pub orders : {t : Settings} {l : Lent} {places : List ℕ} (xs : List (List ℕ)) (i j : ℕ) → Passes L xs t l places → i < length xs → j < length xs
-      → L .compare (lentBy L xs t l places) (columnBy L xs t l places) i (lentBy L xs t l places) (columnBy L xs t l places) j
+      → L .compare (lentBy L xs t l places) (libraryColumn L xs t l places) i (lentBy L xs t l places) (libraryColumn L xs t l places) j
       ≡ compared.Is (orderOf (cmp (getD xs i []) (getD xs j [])))

@@ -18,7 +18,7 @@ use Rattle.builder.specs.Get.{columnOf}
 use Rattle.builder.specs.Finish.{whyFinish, finished}
 use Rattle.compaction.specs.Compact.{whyCompact, compacted, compactColumn}
 use Rattle.compaction.specs.Bounded.{Bounded}
-use Rattle.promise.specs.Calls.{Item, null, bytesOf, isValue, Entry, call, appended, Ran}
+use Rattle.promise.specs.Calls.{Item, null, itemBytes, isValue, Entry, call, appended, Ran}
 
 -- nothing was refused on the way to it
 pub data Made (xs : List Item) : Lent → Column → Type 0 where
@@ -31,13 +31,13 @@ pub data Made (xs : List Item) : Lent → Column → Type 0 where
 pub record Faithful (xs : List Item) (l : Lent) (c : Column) : Type 0 where
   pub rows : c .rows ≡ length xs
   pub accepts : (i : ℕ) → i < length xs → whyValue l c i ≡ Accepted
-  pub values : (i : ℕ) → i < length xs → valueAt l c i ≡ bytesOf (getD xs i null)
+  pub values : (i : ℕ) → i < length xs → valueAt l c i ≡ itemBytes (getD xs i null)
   pub bits : (i : ℕ) → i < length xs → bitOf l c i ≡ bitWhen Accepted (isValue (getD xs i null))
 
 -- rows of two columns compare as what was appended, a null counting as empty
 pub record Ordered (xs : List Item) (l : Lent) (c : Column) (m : Lent) (d : Column) : Type 0 where
   pub order : (i j : ℕ) → i < length xs → j < length xs → compareRows l c i m d j
-      ≡ compared.Is (orderOf (cmp (bytesOf (getD xs i null)) (bytesOf (getD xs j null))))
+      ≡ compared.Is (orderOf (cmp (itemBytes (getD xs i null)) (itemBytes (getD xs j null))))
 
 -- the third promise
 pub record Promise (xs : List Item) : Type 0 where

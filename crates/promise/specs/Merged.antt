@@ -15,7 +15,7 @@ use Rattle.builder.specs.declared.Settings.{Settings}
 use Rattle.builder.specs.State.{Builder, builder, makeRoom, addRows}
 use Rattle.builder.specs.Start.{whyStart, start}
 use Rattle.builder.specs.Values.{merges, whyValues, store, putValues}
-use Rattle.promise.specs.Calls.{Cell, no·value, Call, add·values, add·null, add·block, add·view, add·column, finish·copy, finish, put, after, Ran}
+use Rattle.promise.specs.Calls.{Cell, no·value, Call, add·values, add·null, add·block, add·view, add·column, finish·copy, finish, put, cellsAfter, Ran}
 
 -- what is remembered of the calls since start or finish: what was put in each row, and the rows that a value call stored
 pub record Memo : Type 0 where
@@ -49,7 +49,7 @@ storedAfter m finish·copy k = k .stored
 storedAfter m finish k = []
 
 abbrev pub recall : Merging → Call → Builder → Memo → Memo
-recall m c b k = memo (after c b (k .rows)) (storedAfter m c k)
+recall m c b k = memo (cellsAfter c b (k .rows)) (storedAfter m c k)
 
 unfoldable pub recallAll : Merging → List Call → Builder → Memo → Memo
 recallAll m [] b k = k

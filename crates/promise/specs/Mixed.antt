@@ -20,22 +20,22 @@ use Rattle.builder.specs.Get.{columnOf}
 use Rattle.builder.specs.Finish.{finished}
 use Rattle.promise.specs.Calls.{cell, no·value, Call, add·values, add·null, add·block, add·view, add·column, finish·copy, finish, why, put, rowsAfter}
 use Rattle.promise.specs.Merged.{memo, target, recallAll}
-use Rattle.promise.specs.Bench.{mar, may, zeroed, alone}
+use Rattle.promise.specs.Bench.{mar, may, benchLent, alone}
 
 -- whether none of the calls is refused, and what they leave
-unfoldable pub accepts : List Call → Builder → Bool
-accepts [] b = true
-accepts (c ∷ cs) b = isAccepted (why c b) && accepts cs (put c b)
+unfoldable pub acceptsCalls : List Call → Builder → Bool
+acceptsCalls [] b = true
+acceptsCalls (c ∷ cs) b = isAccepted (why c b) && acceptsCalls cs (put c b)
 
-unfoldable pub left : List Call → Builder → Builder
-left [] b = b
-left (c ∷ cs) b = left cs (put c b)
+unfoldable pub leftByCalls : List Call → Builder → Builder
+leftByCalls [] b = b
+leftByCalls (c ∷ cs) b = leftByCalls cs (put c b)
 
 abbrev pub merging : Settings
 merging = record { kind = Binary; sizes = Doubled; merging = On }
 
-abbrev pub begun : Builder
-begun = start merging zeroed (replicate 4 0)
+abbrev pub mixedBegun : Builder
+mixedBegun = start merging benchLent (replicate 4 0)
 
 -- a block that holds RO-8040-03MAR, a view of it, and that value: stored, for a view's row is no target
 abbrev pub viewed·first : List Call
@@ -46,20 +46,20 @@ abbrev pub joined : List Call
 joined = add·block mar ∷ add·view 0 0 13 ∷ add·values 1 mar ∷ add·values 1 mar ∷ add·column (alone may .lent) (alone may .column) ∷ finish·copy ∷ []
 
 -- two rows are left after a finish
-abbrev pub anew : List Call
-anew = add·values 1 mar ∷ finish ∷ add·values 1 mar ∷ add·null ∷ []
+abbrev pub mixedAnew : List Call
+mixedAnew = add·values 1 mar ∷ finish ∷ add·values 1 mar ∷ add·null ∷ []
 
 abbrev pub shownIn : Builder → List (List ℕ)
 shownIn b = rowsOf (valueAt (finished b .lent) (columnOf b)) (b .state .rows)
 
 pub record Mixed : Type 0 where
-  pub joins : accepts joined begun ≡ true
-  pub puts : rowsAfter joined begun [] ≡ cell mar true ∷ cell mar true ∷ cell mar true ∷ cell may true ∷ []
-  pub shows : shownIn (left joined begun) ≡ mar ∷ mar ∷ mar ∷ may ∷ []
+  pub joins : acceptsCalls joined mixedBegun ≡ true
+  pub puts : rowsAfter joined mixedBegun [] ≡ cell mar true ∷ cell mar true ∷ cell mar true ∷ cell may true ∷ []
+  pub shows : shownIn (leftByCalls joined mixedBegun) ≡ mar ∷ mar ∷ mar ∷ may ∷ []
   -- the view's row in block 0, the value's two rows in block 1, the column's in block 2
-  pub blocks : rowsOf (λ r. blockOf (viewAt (left joined begun .lent .views) r)) 4 ≡ 0 ∷ 1 ∷ 1 ∷ 2 ∷ []
-  pub targets : target On (recallAll On viewed·first begun (memo [] [])) mar ≡ some 1
-  pub again : accepts anew begun ≡ true
-  pub after : rowsAfter anew begun [] ≡ cell mar true ∷ no·value ∷ []
-  pub bits : rowsOf (bitOf (finished (left anew begun) .lent) (columnOf (left anew begun))) 2 ≡ Valid ∷ Null ∷ []
-  pub forgets : target On (recallAll On (add·values 1 mar ∷ finish ∷ []) begun (memo [] [])) mar ≡ none
+  pub blocks : rowsOf (λ r. blockOf (viewAt (leftByCalls joined mixedBegun .lent .views) r)) 4 ≡ 0 ∷ 1 ∷ 1 ∷ 2 ∷ []
+  pub targets : target On (recallAll On viewed·first mixedBegun (memo [] [])) mar ≡ some 1
+  pub again : acceptsCalls mixedAnew mixedBegun ≡ true
+  pub after : rowsAfter mixedAnew mixedBegun [] ≡ cell mar true ∷ no·value ∷ []
+  pub bits : rowsOf (bitOf (finished (leftByCalls mixedAnew mixedBegun) .lent) (columnOf (leftByCalls mixedAnew mixedBegun))) 2 ≡ Valid ∷ Null ∷ []
+  pub forgets : target On (recallAll On (add·values 1 mar ∷ finish ∷ []) mixedBegun (memo [] [])) mar ≡ none

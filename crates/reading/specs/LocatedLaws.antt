@@ -21,7 +21,7 @@ use Rattle.column.specs.FitLaws.{fits-view}
 use Rattle.column.specs.SpotLaws.{spot-reach, found-lies, found-reach, spot-shown}
 use Rattle.reading.specs.declared.Located.{Located}
 use Rattle.reading.specs.declared.Located.the-variants as located
-use Rattle.reading.specs.Reading.{whyReach, whyValue, locatedBy, valueAt, whyOf, bytesOf, pointsOf, LiesAt, pointsAt}
+use Rattle.reading.specs.Reading.{whyReach, whyValue, locatedBy, valueAt, whyOf, locatedBytes, pointsOf, LiesAt, pointsAt}
 use Rattle.reading.specs.Reading as spec
 use Rattle.reading.specs.ReadingLaws.{value-reach, value-readable}
 
@@ -75,11 +75,11 @@ module _ (views bytes nulls : List ℕ) (table : List Block) (c : Column) (r : �
           found-lies views bytes nulls table (c .blocks) (c .first + r) there refl (fits-view views bytes nulls table c r (g .fit) (g .row))
       by (Refused z) p = tt
 
-  pub located-bytes : bytesOf views bytes x ≡ valueAt l c r
-  unfolding spec.locatedAt bytesOf valueAt shownAt
-  located-bytes = ap (bytesOf views bytes) e ∙ by (whyValue l c r) refl
+  pub located-bytes : locatedBytes views bytes x ≡ valueAt l c r
+  unfolding spec.locatedAt locatedBytes valueAt shownAt
+  located-bytes = ap (locatedBytes views bytes) e ∙ by (whyValue l c r) refl
     where
-      by : (w : Why) → whyValue l c r ≡ w → bytesOf views bytes (locatedBy w there) ≡ ifAccepted w (shownAt l c r) []
+      by : (w : Why) → whyValue l c r ≡ w → locatedBytes views bytes (locatedBy w there) ≡ ifAccepted w (shownAt l c r) []
       by Accepted p =
           let g = value-readable l c r (ap isAccepted p) in
           spot-shown views bytes nulls table (c .blocks) (c .first + r) there refl (found-reach views bytes nulls table (c .blocks) (c .first + r)
@@ -93,16 +93,16 @@ module _ (views bytes : List ℕ) (v d y : ℕ × ℕ) (x : Located) where
   unfolding LiesAt
   at-lies s e h = rw e at h
 
-  pub at-bytes : (s : Spot) → x ≡ located.At s → bytesAt views bytes s ≡ bytesOf views bytes x
-  unfolding bytesOf
+  pub at-bytes : (s : Spot) → x ≡ located.At s → bytesAt views bytes s ≡ locatedBytes views bytes x
+  unfolding locatedBytes
   at-bytes s e = rw e
 
   pub at-points : (s : Spot) → x ≡ located.At s → pointsTo v d s ≡ pointsOf v d x
   unfolding pointsOf
   at-points s e = rw e
 
-  pub no-bytes : (r : Refusal) → x ≡ located.Refused r → [] ≡ bytesOf views bytes x
-  unfolding bytesOf
+  pub no-bytes : (r : Refusal) → x ≡ located.Refused r → [] ≡ locatedBytes views bytes x
+  unfolding locatedBytes
   no-bytes r e = rw e
 
   pub no-points : (r : Refusal) → x ≡ located.Refused r → y ≡ (v .0, 0 + v .1) → y ≡ pointsOf v d x

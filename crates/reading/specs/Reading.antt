@@ -13,7 +13,7 @@ use Rattle.bounds.specs.declared.Why.the-variants.{Accepted, Refused}
 use Rattle.views.specs.View.{lengthOf, isShort}
 use Rattle.column.specs.declared.Column.{Column}
 use Rattle.column.specs.Lent.{Lent, fits}
-use Rattle.column.specs.Meaning.{rowView, shownAt, validAt}
+use Rattle.column.specs.Meaning.{rowView, shownAt, rowValid}
 use Rattle.column.specs.declared.Spot.{Spot}
 use Rattle.column.specs.Spot.{spotIn, bytesAt, pointsTo, further, Lies}
 use Rattle.column.specs.Truth.{reachBy, isInside, reachableAt}
@@ -27,8 +27,8 @@ use Rattle.reading.specs.declared.Sliced.{Sliced}
 use Rattle.reading.specs.declared.Sliced.the-variants as sliced
 
 -- 2
-unfoldable pub whyColumn : Lent → Column → Why
-whyColumn l c = refuse Fit (not (fits l c)) Accepted
+unfoldable pub whyFit : Lent → Column → Why
+whyFit l c = refuse Fit (not (fits l c)) Accepted
 
 -- 2, 3: of rows that begin at start, and count of them
 unfoldable pub whyRun : Lent → Column → ℕ → ℕ → Why
@@ -59,9 +59,9 @@ abbrev pub whyOf : Located → Why
 whyOf (located.At s) = Accepted
 whyOf (located.Refused r) = Refused r
 
-unfoldable pub bytesOf : List ℕ → List ℕ → Located → List ℕ
-bytesOf views bytes (located.At s) = bytesAt views bytes s
-bytesOf views bytes (located.Refused r) = []
+unfoldable pub locatedBytes : List ℕ → List ℕ → Located → List ℕ
+locatedBytes views bytes (located.At s) = bytesAt views bytes s
+locatedBytes views bytes (located.Refused r) = []
 
 unfoldable pub pointsOf : ℕ × ℕ → ℕ × ℕ → Located → ℕ × ℕ
 pointsOf views bytes (located.At s) = pointsTo views bytes s
@@ -80,11 +80,11 @@ unfoldable pub pointsAt : Lent → Column → ℕ → ℕ × ℕ → ℕ × ℕ 
 pointsAt l c r views bytes = pointsOf views bytes (locatedAt l c r)
 
 -- the first n bytes, and the last n: none where there are fewer
-unfoldable pub prefixOf : ℕ → List ℕ → List ℕ
-prefixOf n x = pick (leb n (length x)) (take n x) []
+unfoldable pub prefixBytes : ℕ → List ℕ → List ℕ
+prefixBytes n x = pick (leb n (length x)) (take n x) []
 
-unfoldable pub suffixOf : ℕ → List ℕ → List ℕ
-suffixOf n x = pick (leb n (length x)) (drop (length x - n) x) []
+unfoldable pub suffixBytes : ℕ → List ℕ → List ℕ
+suffixBytes n x = pick (leb n (length x)) (drop (length x - n) x) []
 
 -- how far into a value its last n bytes begin
 unfoldable pub skipOf : ℕ → List ℕ → ℕ
@@ -92,10 +92,10 @@ skipOf n x = pick (leb n (length x)) (length x - n) 0
 
 -- of what a row's value is, which is empty where it is refused
 unfoldable pub prefixAt : Lent → Column → ℕ → ℕ → List ℕ
-prefixAt l c r n = prefixOf n (valueAt l c r)
+prefixAt l c r n = prefixBytes n (valueAt l c r)
 
 unfoldable pub suffixAt : Lent → Column → ℕ → ℕ → List ℕ
-suffixAt l c r n = suffixOf n (valueAt l c r)
+suffixAt l c r n = suffixBytes n (valueAt l c r)
 
 -- a number where the call is accepted
 abbrev pub numbered : Why → ℕ → Number
@@ -112,7 +112,7 @@ bitWhen Accepted false = bit.Null
 bitWhen (Refused r) v = bit.Refused r
 
 unfoldable pub bitOf : Lent → Column → ℕ → Bit
-bitOf l c r = bitWhen (whyRow l c r) (validAt l c r)
+bitOf l c r = bitWhen (whyRow l c r) (rowValid l c r)
 
 -- how many of the rows from start on, count of them, are null
 unfoldable pub nullRun : Lent → Column → ℕ → ℕ → Number
@@ -132,10 +132,10 @@ slice l c start count = slicedWhen (whyRun l c start count) (sliceOf c start cou
 -- the lengths of the first n rows that aren't null
 unfoldable pub bytesLen : Lent → Column → ℕ → ℕ
 bytesLen l c zero = 0
-bytesLen l c (suc n) = bytesLen l c n + pick (validAt l c n) (lengthOf (rowView l c n)) 0
+bytesLen l c (suc n) = bytesLen l c n + pick (rowValid l c n) (lengthOf (rowView l c n)) 0
 
 unfoldable pub totalBytesLen : Lent → Column → Number
-totalBytesLen l c = numbered (whyColumn l c) (bytesLen l c (c .rows))
+totalBytesLen l c = numbered (whyFit l c) (bytesLen l c (c .rows))
 
 -- the lengths of the long ones of the first n rows, null or not
 unfoldable pub bufferBytes : Lent → Column → ℕ → ℕ
@@ -143,4 +143,4 @@ bufferBytes l c zero = 0
 bufferBytes l c (suc n) = bufferBytes l c n + pick (isShort (lengthOf (rowView l c n))) 0 (lengthOf (rowView l c n))
 
 unfoldable pub totalBufferBytesUsed : Lent → Column → Number
-totalBufferBytesUsed l c = numbered (whyColumn l c) (bufferBytes l c (c .rows))
+totalBufferBytesUsed l c = numbered (whyFit l c) (bufferBytes l c (c .rows))

@@ -23,7 +23,7 @@ use Rattle.reading.specs.declared.Bit.the-variants as bit
 use Rattle.reading.specs.declared.Sliced.the-variants as sliced
 use Rattle.reading.specs.declared.Cursor.{Cursor}
 use Rattle.reading.specs.Walk.{cursor, walkStep}
-use Rattle.reading.specs.Reading.{numbered, bitWhen, slicedWhen, whyColumn, whyRun, whyValue, prefixOf, suffixOf, skipOf}
+use Rattle.reading.specs.Reading.{numbered, bitWhen, slicedWhen, whyFit, whyRun, whyValue, prefixBytes, suffixBytes, skipOf}
 
 module _ (l : Lent) (c : Column) where
   -- ---- the tests one by one, and what is known where all let the call pass
@@ -40,10 +40,6 @@ module _ (l : Lent) (c : Column) where
     pub value-reach : fits l c ≡ true → r < c .rows → refuse (BadView r) (not (reachableAt l c r)) Accepted ≡ whyValue l c r
     unfolding whyValue refuse
     value-reach f h = rw (f, lt-leb (c .rows) r h)
-
-    pub value-unreached : fits l c ≡ true → r < c .rows → reachableAt l c r ≡ false → Refused (BadView r) ≡ whyValue l c r
-    unfolding refuse
-    value-unreached f h e = rw (← value-reach f h, e)
 
     pub value-reached : fits l c ≡ true → r < c .rows → reachableAt l c r ≡ true → Accepted ≡ whyValue l c r
     unfolding refuse
@@ -86,35 +82,35 @@ module _ (l : Lent) (c : Column) where
         let w = accepted-both Row (ltb (c .rows) (start + count)) Accepted (f .1) in
         record { fit = not-false (fits l c) (f .0); rows = ltb-false (c .rows) (start + count) (w .0) }
 
-  pub column-unfit : fits l c ≡ false → Refused Fit ≡ whyColumn l c
-  unfolding whyColumn refuse
+  pub column-unfit : fits l c ≡ false → Refused Fit ≡ whyFit l c
+  unfolding whyFit refuse
   column-unfit f = rw f
 
-  pub column-fit : fits l c ≡ true → Accepted ≡ whyColumn l c
-  unfolding whyColumn refuse
+  pub column-fit : fits l c ≡ true → Accepted ≡ whyFit l c
+  unfolding whyFit refuse
   column-fit f = rw f
 
-  pub column-known : isAccepted (whyColumn l c) ≡ true → fits l c ≡ true
-  unfolding whyColumn
+  pub column-known : isAccepted (whyFit l c) ≡ true → fits l c ≡ true
+  unfolding whyFit
   column-known a = not-false (fits l c) (accepted-both Fit (not (fits l c)) Accepted a .0)
 
 -- ---- prefix and suffix of a part
 
 module _ (n : ℕ) (x : List ℕ) where
-  pub prefix-no : length x < n → [] ≡ prefixOf n x
-  unfolding prefixOf
+  pub prefix-no : length x < n → [] ≡ prefixBytes n x
+  unfolding prefixBytes
   prefix-no h = rw (lt-leb n (length x) h)
 
-  pub prefix-yes : n ≤ length x → take (n - 0) (drop 0 x) ≡ prefixOf n x
-  unfolding prefixOf
+  pub prefix-yes : n ≤ length x → take (n - 0) (drop 0 x) ≡ prefixBytes n x
+  unfolding prefixBytes
   prefix-yes h = rw (le-leb n (length x) h, sub-zero n)
 
-  pub suffix-no : length x < n → [] ≡ suffixOf n x
-  unfolding suffixOf
+  pub suffix-no : length x < n → [] ≡ suffixBytes n x
+  unfolding suffixBytes
   suffix-no h = rw (lt-leb n (length x) h)
 
-  pub suffix-yes : n ≤ length x → take (length x - (length x - n)) (drop (length x - n) x) ≡ suffixOf n x
-  unfolding suffixOf
+  pub suffix-yes : n ≤ length x → take (length x - (length x - n)) (drop (length x - n) x) ≡ suffixBytes n x
+  unfolding suffixBytes
   suffix-yes h = rw (le-leb n (length x) h) (take-all (length x - (length x - n)) (drop (length x - n) x) (simp length-drop (omega arith)))
 
 -- where they are, by where the whole is

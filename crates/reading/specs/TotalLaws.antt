@@ -13,7 +13,7 @@ use Rattle.column.specs.declared.Kind.the-variants.{Binary}
 use Rattle.column.specs.declared.Column.{Column}
 use Rattle.column.specs.Lent.{Lent, buffers, lent, fits}
 use Rattle.column.specs.FitLaws.{fits-gives}
-use Rattle.column.specs.Meaning.{validAt}
+use Rattle.column.specs.Meaning.{rowValid}
 use Rattle.reading.specs.Reading.{bytesLen, bufferBytes}
 
 -- a column of which only the rows are asked
@@ -29,7 +29,7 @@ pub record Held (vs ms : List ℕ) (mapped : Bool) (first rows : ℕ) : Type 0 w
 module _ (l : Lent) (c : Column) (k s x : ℕ) where
   pub bytes-more : s ≡ bytesLen l c k → x ≡ pick (bits.validAt (l .nulls) (c .mapped) (c .first + k)) (lengthOf (viewAt (l .views) (c .first + k))) 0
       → s + x ≡ bytesLen l c (k + 1)
-  unfolding bytesLen validAt
+  unfolding bytesLen rowValid
   bytes-more e f = rw (add-one k, e, f)
 
   pub buffer-more : s ≡ bufferBytes l c k → x ≡ pick (isShort (lengthOf (viewAt (l .views) (c .first + k)))) 0 (lengthOf (viewAt (l .views) (c .first + k)))
@@ -48,7 +48,7 @@ buffer-none l c = refl
 -- nothing else of the column is asked, nor the null map for the long rows
 module _ (views bytes starts lens nulls : List ℕ) (c : Column) where
   pub bytes-bare : (n : ℕ) → bytesLen (buffers views [] [] nulls) (rowsOnly (c .mapped) (c .first)) n ≡ bytesLen (lent views bytes starts lens nulls) c n
-  unfolding bytesLen validAt
+  unfolding bytesLen rowValid
   bytes-bare zero = refl
   bytes-bare (suc n) = rw (bytes-bare n)
 

@@ -20,6 +20,7 @@ module _ (l : Lent) (c : Column) (r : ℕ) (h : Readable l c r) where
   unfolding valueAt
   value-shown = rw (← accepted)
 
+  -- a walk shows the rows and ends after the last (end theorems: nothing cites them)
   pub walk-shown : walkValue l c (cursor r) ≡ shownAt l c r
   unfolding walkValue
   walk-shown = value-shown

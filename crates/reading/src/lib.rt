@@ -13,7 +13,7 @@ ghost use Rattle.column.specs.declared.Block.{Block};
 ghost use Rattle.column.specs.Lent.{lentOf, buffers};
 ghost use Rattle.column.specs.Spot.{further, Sees};
 ghost use Rattle.reading.specs.Reading as spec;
-ghost use Rattle.reading.specs.Reading.{whyReach, locatedBy, whyOf, bytesOf, pointsOf, LiesAt};
+ghost use Rattle.reading.specs.Reading.{whyReach, locatedBy, whyOf, locatedBytes, pointsOf, LiesAt};
 ghost use Rattle.reading.specs.TotalLaws.{rowsOnly, Held};
 ghost use Rattle.reading.specs.Walk.{walkStart, walkValue, walkStep};
 use bounds::Refusal;
@@ -133,7 +133,7 @@ pub fn why_of(l: Located) -> Why
 // The bytes of a value that was looked for: a part of the views or of the data; an empty one of the views where it is refused.
 pub fn part_of<'a>(views: &'a [u8], bytes: &'a [u8], l: Located) -> &'a [u8]
     requires { ⌜ LiesAt (now views) (now bytes) l ⌝ }
-    ensures { λ r. ⌜ (now r ≡ bytesOf (now (views .entry)) (now (bytes .entry)) l) × (ptr r ≡ pointsOf (ptr (views .entry)) (ptr (bytes .entry)) l) ⌝ }
+    ensures { λ r. ⌜ (now r ≡ locatedBytes (now (views .entry)) (now (bytes .entry)) l) × (ptr r ≡ pointsOf (ptr (views .entry)) (ptr (bytes .entry)) l) ⌝ }
 {
     match l {
         Located::At(s) => return column::part_of(views, bytes, s),
@@ -262,7 +262,7 @@ fn why_column(
     nulls: &[u8],
     c: Column,
 ) -> Why
-    ensures { λ w. ⌜ w ≡ spec.whyColumn (lentOf (views .entry) (bytes .entry) (starts .entry) (lens .entry) (nulls .entry)) c ⌝ }
+    ensures { λ w. ⌜ w ≡ spec.whyFit (lentOf (views .entry) (bytes .entry) (starts .entry) (lens .entry) (nulls .entry)) c ⌝ }
 {
     if !column::fits(views, bytes, starts, lens, nulls, c) {
         return Why::Refused(Refusal::Fit);

@@ -1,12 +1,13 @@
 // Instruments of tests, no part of the library: the calls over a table of records, by numbers as exports and builder_exports have them, for the programs of
 // the gate and for drivers in Rust. A table of more records than through_records holds is answered with TOO_MANY, and nothing is done.
-mod numbers;
-
-use builder_exports::Counted;
-use exports::Told;
+use numbers::Counted;
+use numbers::Told;
 
 // More than any refusal's number.
 pub const TOO_MANY: u64 = 99;
+
+// The answer of a step of the walk whose value is another than the one asked for.
+pub const OTHER: u64 = 98;
 
 fn number_at(from: &[usize], k: usize) -> usize {
     if from.len() <= k {
@@ -21,6 +22,13 @@ fn keep(from: &[usize], to: &mut [usize]) {
     while k < to.len() {
         to[k] = number_at(from, k);
         k += 1;
+    }
+}
+
+fn too_many() -> Told {
+    Told {
+        number: TOO_MANY,
+        row: 0,
     }
 }
 
@@ -47,7 +55,7 @@ pub extern "C" fn records_append_value(
     places: &mut [u32],
     x: &[u8],
 ) -> u64 {
-    let s = numbers::state_of(state);
+    let s = builder_exports::state_of(state);
     let n = records(&starts[..], &lens[..]);
     let mut a = [0usize; 16];
     let mut b = [0usize; 16];
@@ -69,7 +77,7 @@ pub extern "C" fn records_append_value(
         starts,
         lens,
     );
-    numbers::tell(r, state)
+    builder_exports::tell(r, state)
 }
 
 // A value is added n times.
@@ -85,7 +93,7 @@ pub extern "C" fn records_append_values(
     x: &[u8],
     times: usize,
 ) -> u64 {
-    let s = numbers::state_of(state);
+    let s = builder_exports::state_of(state);
     let n = records(&starts[..], &lens[..]);
     let mut a = [0usize; 16];
     let mut b = [0usize; 16];
@@ -108,7 +116,7 @@ pub extern "C" fn records_append_values(
         starts,
         lens,
     );
-    numbers::tell(r, state)
+    builder_exports::tell(r, state)
 }
 
 // A null is added.
@@ -122,13 +130,13 @@ pub extern "C" fn records_append_null(
     nulls: &mut [u8],
     places: &[u32],
 ) -> u64 {
-    let s = numbers::state_of(state);
+    let s = builder_exports::state_of(state);
     let n = records(starts, lens);
     if through_records::MOST < n {
         return TOO_MANY;
     }
     let r = through_records::append_null(starts, lens, n, s, views, bytes, nulls, places);
-    numbers::tell(r, state)
+    builder_exports::tell(r, state)
 }
 
 // A block is added; its number.
@@ -143,7 +151,7 @@ pub extern "C" fn records_append_block(
     places: &[u32],
     x: &[u8],
 ) -> Counted {
-    let s = numbers::state_of(state);
+    let s = builder_exports::state_of(state);
     let n = records(&starts[..], &lens[..]);
     let mut a = [0usize; 16];
     let mut b = [0usize; 16];
@@ -171,9 +179,98 @@ pub extern "C" fn records_append_block(
     let number = r.block;
     let answer = r.answer;
     Counted {
-        refused: numbers::tell(answer, state),
+        refused: builder_exports::tell(answer, state),
         number,
     }
+}
+
+// A view of a completed block is added.
+#[no_mangle]
+pub extern "C" fn records_append_view(
+    state: &mut [usize; 11],
+    views: &mut [u8],
+    bytes: &[u8],
+    starts: &[usize],
+    lens: &[usize],
+    nulls: &mut [u8],
+    places: &[u32],
+    block: u32,
+    offset: u32,
+    size: u32,
+) -> u64 {
+    let s = builder_exports::state_of(state);
+    let n = records(starts, lens);
+    if through_records::MOST < n {
+        return TOO_MANY;
+    }
+    let r = through_columns::append_view(
+        starts,
+        lens,
+        n,
+        s,
+        views,
+        bytes,
+        nulls,
+        places,
+        block,
+        offset,
+        size,
+    );
+    builder_exports::tell(r, state)
+}
+
+// A column is added, with the row that its refusal names.
+#[no_mangle]
+pub extern "C" fn records_append_column<'a>(
+    state: &mut [usize; 11],
+    views: &mut [u8],
+    bytes: &mut [u8],
+    starts: &mut [usize],
+    lens: &mut [usize],
+    nulls: &mut [u8],
+    places: &[u32],
+    srcviews: &'a [u8],
+    srcbytes: &'a [u8],
+    srcstarts: &[usize],
+    srclens: &[usize],
+    srcnulls: &'a [u8],
+    column: &[usize; 5],
+) -> Told {
+    let s = builder_exports::state_of(state);
+    let n = records(&starts[..], &lens[..]);
+    let m = records(srcstarts, srclens);
+    let mut a = [0usize; 16];
+    let mut b = [0usize; 16];
+    keep(&starts[..], &mut a);
+    keep(&lens[..], &mut b);
+    if through_records::MOST < n {
+        return too_many();
+    }
+    if through_records::MOST < m {
+        return too_many();
+    }
+    let r = through_columns::append_column(
+        &a,
+        &b,
+        n,
+        s,
+        views,
+        bytes,
+        nulls,
+        places,
+        srcstarts,
+        srclens,
+        m,
+        srcviews,
+        srcbytes,
+        srcnulls,
+        numbers::column_of(column),
+        starts,
+        lens,
+    );
+    let w = r.why;
+    builder_exports::tell(r, state);
+    numbers::told_why(w)
 }
 
 // The column that was built.
@@ -188,7 +285,7 @@ pub extern "C" fn records_finish(
     places: &mut [u32],
     column: &mut [usize; 5],
 ) -> u64 {
-    let s = numbers::state_of(state);
+    let s = builder_exports::state_of(state);
     let n = records(&starts[..], &lens[..]);
     let mut a = [0usize; 16];
     let mut b = [0usize; 16];
@@ -202,7 +299,7 @@ pub extern "C" fn records_finish(
     let made = r.column;
     let why = answer.why;
     numbers::hand(why, made, column);
-    numbers::tell(answer, state)
+    builder_exports::tell(answer, state)
 }
 
 // The column so far.
@@ -217,7 +314,7 @@ pub extern "C" fn records_finish_by_copy(
     places: &[u32],
     column: &mut [usize; 5],
 ) -> u64 {
-    let s = numbers::state_of(state);
+    let s = builder_exports::state_of(state);
     let n = records(&starts[..], &lens[..]);
     let mut a = [0usize; 16];
     let mut b = [0usize; 16];
@@ -231,7 +328,7 @@ pub extern "C" fn records_finish_by_copy(
     let made = r.column;
     let why = answer.why;
     numbers::hand(why, made, column);
-    numbers::tell(answer, state)
+    builder_exports::tell(answer, state)
 }
 
 // 0 where a row's value while it is built can be read, else the refusal's number.
@@ -246,7 +343,7 @@ pub extern "C" fn records_why_get<'a>(
     places: &[u32],
     row: usize,
 ) -> u64 {
-    let s = numbers::state_of(state);
+    let s = builder_exports::state_of(state);
     let n = records(starts, lens);
     if through_records::MOST < n {
         return TOO_MANY;
@@ -268,7 +365,7 @@ pub extern "C" fn records_get_value_is<'a>(
     row: usize,
     want: &[u8],
 ) -> u64 {
-    let s = numbers::state_of(state);
+    let s = builder_exports::state_of(state);
     let n = records(starts, lens);
     if through_records::MOST < n {
         return TOO_MANY;
@@ -294,7 +391,7 @@ pub extern "C" fn records_why_value<'a>(
     if through_records::MOST < n {
         return TOO_MANY;
     }
-    let c = exports::column_of(column);
+    let c = numbers::column_of(column);
     let w = through_records::why_value(starts, lens, n, views, bytes, nulls, c, row);
     bounds::why_number(w) as u64
 }
@@ -315,11 +412,45 @@ pub extern "C" fn records_value_is<'a>(
     if through_records::MOST < n {
         return TOO_MANY;
     }
-    let c = exports::column_of(column);
+    let c = numbers::column_of(column);
     if through_records::value_is(starts, lens, n, views, bytes, nulls, c, row, want) {
         return 1;
     }
     0
+}
+
+// The row walk set to a row, and a step of it whose value has to be `want`: the refusal's number or 0, and the place after it.
+#[no_mangle]
+pub extern "C" fn records_walk<'a>(
+    views: &'a [u8],
+    bytes: &'a [u8],
+    starts: &[usize],
+    lens: &[usize],
+    nulls: &'a [u8],
+    column: &[usize; 5],
+    row: usize,
+    want: &[u8],
+) -> Counted {
+    let n = records(starts, lens);
+    if through_records::MOST < n {
+        return Counted {
+            refused: TOO_MANY,
+            number: 0,
+        };
+    }
+    let c = numbers::column_of(column);
+    let g = through_walks::walk_at(starts, lens, n, views, bytes, nulls, c, row, want);
+    let why = g.why;
+    if !g.same {
+        return Counted {
+            refused: OTHER,
+            number: g.at,
+        };
+    }
+    Counted {
+        refused: bounds::why_number(why) as u64,
+        number: g.at,
+    }
 }
 
 // 0 where the column is valid, else the refusal's number, with the row that it names.
@@ -334,13 +465,10 @@ pub extern "C" fn records_check<'a>(
 ) -> Told {
     let n = records(starts, lens);
     if through_records::MOST < n {
-        return Told {
-            number: TOO_MANY,
-            row: 0,
-        };
+        return too_many();
     }
-    let c = exports::column_of(column);
-    exports::told_why(through_records::check(starts, lens, n, views, bytes, nulls, c))
+    let c = numbers::column_of(column);
+    numbers::told_why(through_records::check(starts, lens, n, views, bytes, nulls, c))
 }
 
 // Row i of one column against row j of another, by exports' numbers.
@@ -369,8 +497,8 @@ pub extern "C" fn records_compare<'a>(
     if through_records::MOST < m {
         return TOO_MANY;
     }
-    let c = exports::column_of(column);
-    let d = exports::column_of(column2);
+    let c = numbers::column_of(column);
+    let d = numbers::column_of(column2);
     exports::compared_number(through_records::compare(
         starts,
         lens,
@@ -389,4 +517,57 @@ pub extern "C" fn records_compare<'a>(
         d,
         j,
     ))
+}
+
+// A column is written anew, with the row that its refusal names.
+#[no_mangle]
+pub extern "C" fn records_compact<'a>(
+    views: &'a [u8],
+    bytes: &'a [u8],
+    starts: &[usize],
+    lens: &[usize],
+    nulls: &'a [u8],
+    column: &[usize; 5],
+    most: usize,
+    newviews: &mut [u8],
+    newbytes: &mut [u8],
+    newstarts: &mut [usize],
+    newlens: &mut [usize],
+    newnulls: &mut [u8],
+    newcolumn: &mut [usize; 5],
+) -> Told {
+    let n = records(&newstarts[..], &newlens[..]);
+    let m = records(starts, lens);
+    let mut a = [0usize; 16];
+    let mut b = [0usize; 16];
+    keep(&newstarts[..], &mut a);
+    keep(&newlens[..], &mut b);
+    if through_records::MOST < n {
+        return too_many();
+    }
+    if through_records::MOST < m {
+        return too_many();
+    }
+    let r = through_columns::compact(
+        &a,
+        &b,
+        n,
+        starts,
+        lens,
+        m,
+        views,
+        bytes,
+        nulls,
+        numbers::column_of(column),
+        most,
+        newviews,
+        newbytes,
+        newnulls,
+        newstarts,
+        newlens,
+    );
+    let why = r.why;
+    let made = r.column;
+    numbers::hand(why, made, newcolumn);
+    numbers::told_why(why)
 }

@@ -1,5 +1,5 @@
 // Replays data/building.bin, the fixed list of builder calls that oracle/README.md lays out, through the calls for C and Rust: groups of calls on one
-// builder, from its start on. Then it does the same over a table of records: start, view and column alone, which have no such form, are asked as before.
+// builder, from its start on. Then it does the same over tables of records: the start alone, which has no such form, is asked as before.
 // After each call its answer, the whole state and a column answered are compared, and after a group every lent buffer. Writes how many groups, calls
 // and refusals there were,
 // how many calls and how many groups' buffers differed, the first such call, and whether the list ended inside a group.
@@ -39,7 +39,7 @@ fn plain(refusal: u64, row: usize, number: usize) -> Said {
     }
 }
 
-// Calls 1, 2 and 3 over a table of records.
+// Calls 1, 2, 3 and 5 over a table of records.
 fn through_rows(
     q: &[u8; 168],
     x: &[u8],
@@ -86,8 +86,23 @@ fn through_rows(
             0,
         );
     }
+    if call == 3 {
+        return plain(
+            record_exports::records_append_null(
+                state,
+                views,
+                &bytes[..],
+                &starts[..],
+                &lens[..],
+                nulls,
+                &places[..],
+            ),
+            0,
+            0,
+        );
+    }
     plain(
-        record_exports::records_append_null(
+        record_exports::records_append_view(
             state,
             views,
             &bytes[..],
@@ -95,6 +110,9 @@ fn through_rows(
             &lens[..],
             nulls,
             &places[..],
+            input::narrow(a),
+            input::narrow(input::word(q, 2)),
+            input::narrow(input::word(q, 3)),
         ),
         0,
         0,
@@ -118,7 +136,7 @@ fn add_rows(
     let a = input::word(q, 1);
     let b = input::word(q, 2);
     let c = input::word(q, 3);
-    if through && call < 4 {
+    if through {
         return through_rows(q, x, state, views, bytes, starts, lens, nulls, places);
     }
     if call == 1 {
@@ -187,9 +205,63 @@ fn add_rows(
     )
 }
 
+// A column added to a builder, over number slices or over records.
+fn pour<'a>(
+    through: bool,
+    state: &mut [usize; 11],
+    views: &mut [u8],
+    bytes: &mut [u8],
+    starts: &mut [usize],
+    lens: &mut [usize],
+    nulls: &mut [u8],
+    places: &[u32],
+    srcviews: &'a [u8],
+    srcbytes: &'a [u8],
+    srcstarts: &[usize],
+    srclens: &[usize],
+    srcnulls: &'a [u8],
+    column: &[usize; 5],
+) -> Said {
+    if through {
+        let r = record_exports::records_append_column(
+            state,
+            views,
+            bytes,
+            starts,
+            lens,
+            nulls,
+            places,
+            srcviews,
+            srcbytes,
+            srcstarts,
+            srclens,
+            srcnulls,
+            column,
+        );
+        return plain(r.number, r.row, 0);
+    }
+    let t = builder_exports::tambuyeel_append_column(
+        state,
+        views,
+        bytes,
+        starts,
+        lens,
+        nulls,
+        places,
+        srcviews,
+        srcbytes,
+        srcstarts,
+        srclens,
+        srcnulls,
+        column,
+    );
+    plain(t.number, t.row, 0)
+}
+
 // Call 6: the bytes are a column's numbers, the lengths of its buffers, and the buffers.
 fn add_column(
     x: &[u8],
+    through: bool,
     state: &mut [usize; 11],
     views: &mut [u8],
     bytes: &mut [u8],
@@ -228,7 +300,8 @@ fn add_column(
         &mut srcstarts,
         &mut srclens,
     );
-    let t = builder_exports::tambuyeel_append_column(
+    pour(
+        through,
         state,
         views,
         bytes,
@@ -242,8 +315,7 @@ fn add_column(
         &srclens[..k],
         input::cut(x, 72 + v + d + 16 * k, m),
         &column,
-    );
-    plain(t.number, t.row, 0)
+    )
 }
 
 // Calls 4 and 6: those that add blocks.
@@ -285,11 +357,11 @@ fn add_blocks(
         );
         return plain(c.refused, 0, c.number);
     }
-    add_column(x, state, views, bytes, starts, lens, nulls, places)
+    add_column(x, through, state, views, bytes, starts, lens, nulls, places)
 }
 
 // The value of a row as the list has it: 1 the views, 2 the data, none for an empty part; 11 names the row.
-fn part(p: builder_exports::Place, row: usize) -> Said {
+fn part(p: numbers::Place, row: usize) -> Said {
     if p.len == 0 {
         return plain(p.refused, if p.refused == 11 { row } else { 0 }, 0);
     }

@@ -1,6 +1,6 @@
 // Replays data/compaction.bin and data/offsets.bin, the fixed lists of answers that oracle/README.md lays out: the refusal, the row that it names, the new
 // column, and every byte of the output's buffers. Writes for each list how many records there were, how many were accepted, how many were answered
-// otherwise, the first of those, and whether the list ended inside a record. An offset column is also asked for over a table of records.
+// otherwise, the first of those, and whether the list ended inside a record. Each is also asked for over tables of records.
 mod input;
 
 ghost use mathlib.Core.Path.{_≡_};
@@ -323,6 +323,115 @@ fn through_agrees<'a>(
     both(agrees(said, answer), same)
 }
 
+// The same over tables of records.
+fn compact_through<'a>(
+    views: &'a [u8],
+    bytes: &'a [u8],
+    starts: &[usize],
+    lens: &[usize],
+    m: usize,
+    nulls: &'a [u8],
+    c: Column,
+    most: usize,
+    newviews: &mut [u8],
+    newbytes: &mut [u8],
+    newstarts: &mut [usize],
+    newlens: &mut [usize],
+    newnulls: &mut [u8],
+    s: Sizes,
+) -> Said
+    requires { ⌜ (s .views ≤ length (now newviews)) × (s .bytes ≤ length (now newbytes)) × (s .blocks ≤ 16) × (s .nulls ≤ length (now newnulls))
+        × (m ≤ 16) ⌝ }
+{
+    let nv = s.views;
+    let nb = s.bytes;
+    let nt = s.blocks;
+    let nm = s.nulls;
+    let a = [BEFORE_NUMBER; 16];
+    let b = [BEFORE_NUMBER; 16];
+    let done = through_columns::compact(
+        &a,
+        &b,
+        nt,
+        starts,
+        lens,
+        m,
+        views,
+        bytes,
+        nulls,
+        c,
+        most,
+        &mut newviews[..nv],
+        &mut newbytes[..nb],
+        &mut newnulls[..nm],
+        newstarts,
+        newlens,
+    );
+    let why = done.why;
+    let column = done.column;
+    Said { why, column }
+}
+
+// Whether the compaction over tables of records is the list's.
+fn through_compacts<'a>(
+    views: &'a [u8],
+    bytes: &'a [u8],
+    starts: &[usize],
+    lens: &[usize],
+    nulls: &'a [u8],
+    c: Column,
+    most: usize,
+    views2: &[u8],
+    bytes2: &[u8],
+    starts2: &[usize],
+    lens2: &[usize],
+    nulls2: &[u8],
+    s: Sizes,
+    answer: &[u8; 40],
+) -> bool
+    requires { ⌜ (s .views ≤ 1024) × (s .bytes ≤ 1024) × (s .blocks ≤ 16) × (s .nulls ≤ 16) ⌝ }
+{
+    let mut newviews = [BEFORE; 1024];
+    let mut newbytes = [BEFORE; 1024];
+    let mut newstarts = [BEFORE_NUMBER; 16];
+    let mut newlens = [BEFORE_NUMBER; 16];
+    let mut newnulls = [BEFORE; 16];
+    let m = starts.len();
+    if through_records::MOST < m {
+        return false;
+    }
+    let said = compact_through(
+        views,
+        bytes,
+        starts,
+        lens,
+        m,
+        nulls,
+        c,
+        most,
+        &mut newviews,
+        &mut newbytes,
+        &mut newstarts,
+        &mut newlens,
+        &mut newnulls,
+        s,
+    );
+    let same = same_buffers(
+        &newviews,
+        &newbytes,
+        &newstarts,
+        &newlens,
+        &newnulls,
+        views2,
+        bytes2,
+        starts2,
+        lens2,
+        nulls2,
+        s,
+    );
+    both(agrees(said, answer), same)
+}
+
 // Whether buffers of these sizes find room in ours.
 fn in_room(s: Sizes) -> bool
     ensures { λ r. ⌜ (r ≡ true → (s .views ≤ 1024) × (s .bytes ≤ 1024) × (s .blocks ≤ 16) × (s .nulls ≤ 16)) ⌝ }
@@ -339,47 +448,31 @@ fn in_room(s: Sizes) -> bool
     s.nulls <= input::MOST_MAP
 }
 
-// A compaction whose source is read: the list's answer, and ours.
-fn compacted<'a>(
-    fd: i32,
+// A compaction whose source and expected buffers are read, by number slices and over tables of records.
+fn weighed<'a>(
     views: &'a [u8],
     bytes: &'a [u8],
     starts: &[usize],
     lens: &[usize],
-    nulls: &[u8],
+    nulls: &'a [u8],
     c: Column,
     most: usize,
+    views2: &[u8],
+    bytes2: &[u8],
+    starts2: &[usize],
+    lens2: &[usize],
+    nulls2: &[u8],
     s: Sizes,
+    answer: &[u8; 40],
     t: Tally,
-) -> Tally {
-    let mut answer = [0u8; 40];
-    let mut views2 = [0u8; 1024];
-    let mut bytes2 = [0u8; 1024];
-    let mut starts2 = [0usize; 16];
-    let mut lens2 = [0usize; 16];
-    let mut nulls2 = [0u8; 16];
+) -> Tally
+    requires { ⌜ (s .views ≤ 1024) × (s .bytes ≤ 1024) × (s .blocks ≤ 16) × (s .nulls ≤ 16) ⌝ }
+{
     let mut newviews = [BEFORE; 1024];
     let mut newbytes = [BEFORE; 1024];
     let mut newstarts = [BEFORE_NUMBER; 16];
     let mut newlens = [BEFORE_NUMBER; 16];
     let mut newnulls = [BEFORE; 16];
-    if !in_room(s) {
-        return stopped(t, true);
-    }
-    if io::read_full(fd, &mut answer) < 40 {
-        return stopped(t, true);
-    }
-    if !input::load(
-        fd,
-        &mut views2,
-        &mut bytes2,
-        &mut starts2,
-        &mut lens2,
-        &mut nulls2,
-        s,
-    ) {
-        return stopped(t, true);
-    }
     let said = compact(
         views,
         bytes,
@@ -401,18 +494,89 @@ fn compacted<'a>(
         &newstarts,
         &newlens,
         &newnulls,
+        views2,
+        bytes2,
+        starts2,
+        lens2,
+        nulls2,
+        s,
+    );
+    let why = said.why;
+    let through = through_compacts(
+        views,
+        bytes,
+        starts,
+        lens,
+        nulls,
+        c,
+        most,
+        views2,
+        bytes2,
+        starts2,
+        lens2,
+        nulls2,
+        s,
+        answer,
+    );
+    counted(
+        t,
+        bounds::is_accepted(why),
+        both(both(agrees(said, answer), same), through),
+    )
+}
+
+// A compaction whose source is read.
+fn compacted<'a>(
+    fd: i32,
+    views: &'a [u8],
+    bytes: &'a [u8],
+    starts: &[usize],
+    lens: &[usize],
+    nulls: &'a [u8],
+    c: Column,
+    most: usize,
+    s: Sizes,
+    t: Tally,
+) -> Tally {
+    let mut answer = [0u8; 40];
+    let mut views2 = [0u8; 1024];
+    let mut bytes2 = [0u8; 1024];
+    let mut starts2 = [0usize; 16];
+    let mut lens2 = [0usize; 16];
+    let mut nulls2 = [0u8; 16];
+    if !in_room(s) {
+        return stopped(t, true);
+    }
+    if io::read_full(fd, &mut answer) < 40 {
+        return stopped(t, true);
+    }
+    if !input::load(
+        fd,
+        &mut views2,
+        &mut bytes2,
+        &mut starts2,
+        &mut lens2,
+        &mut nulls2,
+        s,
+    ) {
+        return stopped(t, true);
+    }
+    weighed(
+        views,
+        bytes,
+        starts,
+        lens,
+        nulls,
+        c,
+        most,
         &views2,
         &bytes2,
         &starts2,
         &lens2,
         &nulls2,
         s,
-    );
-    let why = said.why;
-    counted(
+        &answer,
         t,
-        bounds::is_accepted(why),
-        both(agrees(said, &answer), same),
     )
 }
 

@@ -1,18 +1,21 @@
 // Replays data/reading.bin, the fixed list of answers about columns that oracle/README.md lays out: groups of two columns and questions about them.
 // A question about a part is asked twice, the second time with every byte of the part changed where the list says that it lies: so the part lies there.
-// Value, check and comparison are also asked over a table of records. Writes how many groups and questions there were, how many were also asked over
-// records, how many questions were answered otherwise, the first of those, and whether the list ended inside a group.
+// Value, check, comparison and the walk are also asked over a table of records, and a column that is valid is walked there from its first row to its end.
+// Writes how many groups and questions there were, how many were also asked over records, how many columns were walked, how many questions were answered
+// otherwise, the first of those, and whether the list ended inside a group.
 mod input;
 mod said;
 
 use column::Column;
 use libc::STDOUT_FILENO;
 use said::Said;
+use through_walks::Stepped;
 
 struct Tally {
     groups: u64,
     questions: u64,
     records: u64,
+    walks: u64,
     wrong: u64,
     first: u64,
     torn: bool,
@@ -199,10 +202,7 @@ fn ask_place<'a>(
     if !agrees(ask_part(views2, bytes2, starts, lens, nulls, c, q), q) {
         return false;
     }
-    if input::word(q, 0) != 1 {
-        return true;
-    }
-    through_value(views2, bytes2, starts, lens, nulls, c, q)
+    ask_through(views2, bytes2, starts, lens, nulls, c, q)
 }
 
 // Call 1 over a table of records.
@@ -240,6 +240,9 @@ fn through_check<'a>(
     if through_records::MOST < n {
         return false;
     }
+    if finds_valid(q) && !through_walk(views, bytes, starts, lens, nulls, c) {
+        return false;
+    }
     agrees(
         said::of_why(
             through_records::check(starts, lens, n, views, bytes, nulls, c),
@@ -247,6 +250,84 @@ fn through_check<'a>(
         ),
         q,
     )
+}
+
+// Whether the list says here that a column is valid.
+fn finds_valid(q: &[u8; 80]) -> bool {
+    if input::word(q, 0) != 11 {
+        return false;
+    }
+    input::word(q, 3) == 0
+}
+
+// Call 13 over a table of records: the walk, set to a row, and a step of it.
+fn through_step<'a>(
+    views: &'a [u8],
+    bytes: &'a [u8],
+    starts: &[usize],
+    lens: &[usize],
+    nulls: &'a [u8],
+    c: Column,
+    q: &[u8; 80],
+) -> bool {
+    let n = input::records(starts, lens);
+    if through_records::MOST < n {
+        return false;
+    }
+    let row = input::word(q, 1);
+    let want = part_of(views, bytes, q);
+    let g = through_walks::walk_at(starts, lens, n, views, bytes, nulls, c, row, want);
+    let why = g.why;
+    agrees(said::of_part(why, g.at, want.len(), g.same), q)
+}
+
+// Whether a step of a walk gave the value and went on to a place.
+fn went_on(g: Stepped, at: usize) -> bool {
+    let why = g.why;
+    if !bounds::is_accepted(why) {
+        return false;
+    }
+    if !g.same {
+        return false;
+    }
+    g.at == at
+}
+
+// Whether a step of a walk gave no value and stayed at a place.
+fn stayed(g: Stepped, at: usize) -> bool {
+    let why = g.why;
+    if bounds::is_accepted(why) {
+        return false;
+    }
+    g.at == at
+}
+
+// The walk of a valid column from its first row to its end: right or not.
+fn through_walk<'a>(
+    views: &'a [u8],
+    bytes: &'a [u8],
+    starts: &[usize],
+    lens: &[usize],
+    nulls: &'a [u8],
+    c: Column,
+) -> bool {
+    let n = input::records(starts, lens);
+    if through_records::MOST < n {
+        return false;
+    }
+    let rows = c.rows;
+    let mut k = 0;
+    while k < rows {
+        let want = reading::value(views, bytes, starts, lens, nulls, c, k);
+        let g = through_walks::walk_at(starts, lens, n, views, bytes, nulls, c, k, want);
+        if !went_on(g, k + 1) {
+            return false;
+        }
+        k += 1;
+    }
+    let none = &bytes[0..0];
+    let end = through_walks::walk_at(starts, lens, n, views, bytes, nulls, c, rows, none);
+    stayed(end, rows)
 }
 
 // Call 10 over two tables of records.
@@ -311,6 +392,7 @@ fn ask_through<'a>(
     match call {
         1 => through_value(views, bytes, starts, lens, nulls, c, q),
         11 => through_check(views, bytes, starts, lens, nulls, c, q),
+        13 => through_step(views, bytes, starts, lens, nulls, c, q),
         _ => true,
     }
 }
@@ -465,7 +547,7 @@ fn more(n: u64) -> u64 {
 // The calls that there are over a table of records.
 fn over_records(call: usize) -> bool {
     match call {
-        1 | 10 | 11 => true,
+        1 | 10 | 11 | 13 => true,
         _ => false,
     }
 }
@@ -480,6 +562,11 @@ fn counted(t: Tally, q: &[u8; 80], right: bool) -> Tally {
             more(t.records)
         } else {
             t.records
+        },
+        walks: if finds_valid(q) {
+            more(t.walks)
+        } else {
+            t.walks
         },
         wrong: if right { t.wrong } else { more(t.wrong) },
         first: if right {
@@ -504,6 +591,7 @@ fn torn(t: Tally) -> Tally {
         groups: t.groups,
         questions: t.questions,
         records: t.records,
+        walks: t.walks,
         wrong: t.wrong,
         first: t.first,
         torn: true,
@@ -698,6 +786,7 @@ fn turn(fd: i32, t: Tally) -> Tally {
             groups: t.groups,
             questions: t.questions,
             records: t.records,
+            walks: t.walks,
             wrong: t.wrong,
             first: t.first,
             torn: t.torn,
@@ -711,6 +800,7 @@ fn turn(fd: i32, t: Tally) -> Tally {
         groups: more(t.groups),
         questions: t.questions,
         records: t.records,
+        walks: t.walks,
         wrong: t.wrong,
         first: t.first,
         torn: false,
@@ -725,6 +815,7 @@ fn replay(fd: i32) -> Tally {
         groups: 0,
         questions: 0,
         records: 0,
+        walks: 0,
         wrong: 0,
         first: 0,
         torn: false,
@@ -752,6 +843,7 @@ fn main() {
     say(b"groups=", t.groups);
     say(b"questions=", t.questions);
     say(b"records=", t.records);
+    say(b"walks=", t.walks);
     say(b"wrong=", t.wrong);
     say(b"first=", t.first);
     say(b"torn=", if t.torn { 1 } else { 0 });

@@ -3,4 +3,3 @@ pub mod LineLaws
 pub mod Items
 pub mod ItemLaws
 pub mod Adding
-pub mod AddLaws

@@ -11,7 +11,7 @@ use lib.ListN.{length, take, drop, length-take, length-drop, drop-of-length-le}
 use lib.Seq.{take-length, drop-drop}
 use Rattle.basis.specs.Pick.{pick}
 use Rattle.bytes.specs.Bytes.{indexOf, indexAfter, slice}
-use Rattle.shelf.specs.Lines.{onFirst, lines, codeMark, nullMark, says, isBad, firstBad}
+use Rattle.shelf.specs.Lines.{onFirst, lines, codeMark, nullMark, says, isBadLine, firstBadLine}
 use Rattle.shelf.specs.declared.Line.the-variants.{Code, Null, Bad}
 use Rattle.order.specs.Order.{same}
 use Rattle.order.specs.OrderLaws.{same-no}
@@ -66,16 +66,16 @@ unfolding lines
 line-end s at h = rw (drop-of-length-le s h)
 
 module _ (n : ℕ) (l : List ℕ) (ls : List (List ℕ)) where
-  pub bad-here : isBad (says l) ≡ true → firstBad n (l ∷ ls) ≡ n + 1
-  unfolding firstBad
+  pub bad-here : isBadLine (says l) ≡ true → firstBadLine n (l ∷ ls) ≡ n + 1
+  unfolding firstBadLine
   bad-here h = rw (h, add-one n)
 
-  pub bad-later : isBad (says l) ≡ false → firstBad n (l ∷ ls) ≡ firstBad (n + 1) ls
-  unfolding firstBad
+  pub bad-later : isBadLine (says l) ≡ false → firstBadLine n (l ∷ ls) ≡ firstBadLine (n + 1) ls
+  unfolding firstBadLine
   bad-later h = rw (h, add-one n)
 
-pub bad-none : (n : ℕ) → firstBad n [] ≡ 0
-unfolding firstBad
+pub bad-none : (n : ℕ) → firstBadLine n [] ≡ 0
+unfolding firstBadLine
 bad-none n = refl
 
 -- ---- what a line says, test by test

@@ -34,12 +34,12 @@ says l = pick (same (take 5 l) codeMark) Code (pick (same l nullMark) Null Bad)
 abbrev pub valueOf : List ℕ → List ℕ
 valueOf l = drop 5 l
 
-abbrev pub isBad : Line → Bool
-isBad Code = false
-isBad Null = false
-isBad Bad = true
+abbrev pub isBadLine : Line → Bool
+isBadLine Code = false
+isBadLine Null = false
+isBadLine Bad = true
 
 -- the number of the first bad line after n lines, 0 where there is none
-unfoldable pub firstBad : ℕ → List (List ℕ) → ℕ
-firstBad n [] = 0
-firstBad n (l ∷ ls) = pick (isBad (says l)) (suc n) (firstBad (suc n) ls)
+unfoldable pub firstBadLine : ℕ → List (List ℕ) → ℕ
+firstBadLine n [] = 0
+firstBadLine n (l ∷ ls) = pick (isBadLine (says l)) (suc n) (firstBadLine (suc n) ls)

@@ -5,7 +5,7 @@ ghost use lib.ListN.{length, drop};
 ghost use Rattle.bytes.specs.Bytes.{indexOf, slice};
 ghost use Rattle.column.specs.Lent.{lent};
 ghost use Rattle.builder.specs.State.{held};
-ghost use Rattle.shelf.specs.Lines.{lines, firstBad};
+ghost use Rattle.shelf.specs.Lines.{lines, firstBadLine};
 ghost use Rattle.shelf.specs.Lines as spec;
 ghost use Rattle.shelf.specs.Items.{itemCount, itemAt, partEnd};
 ghost use Rattle.shelf.specs.Adding.{added, addedAll, built, shelfLent, shelfColumn};
@@ -39,7 +39,7 @@ fn says(line: &[u8]) -> Line
 }
 
 fn bad(line: Line) -> bool
-    ensures { λ r. ⌜ r ≡ spec.isBad line ⌝ }
+    ensures { λ r. ⌜ r ≡ spec.isBadLine line ⌝ }
 {
     match line {
         Line::Code => false,
@@ -69,7 +69,7 @@ fn after(n: usize, e: usize) -> usize
 
 // The number of the first bad line, from 1; 0 where there is none.
 pub fn first_bad(s: &[u8]) -> usize
-    ensures { λ r. ⌜ r ≡ firstBad 0 (lines (now (s .entry))) ⌝ }
+    ensures { λ r. ⌜ r ≡ firstBadLine 0 (lines (now (s .entry))) ⌝ }
 {
     let mut at = 0;
     let mut n = 0;

@@ -4,43 +4,19 @@ use mathlib.Core.Bool.{Bool, true}
 use mathlib.Core.List.{List, [], _∷_, _++_, map, map-append, append-nil}
 use mathlib.Core.Logic.{by-cases}
 use Prim.Native.Nat.{ℕ, suc, _+_, _*_, _≤_, _<_}
-use native.Mathlib.Nat.{add-zero, zero-add}
+use native.Mathlib.Nat.{add-zero}
 use native.Mathlib.Decide.{ℕ-discrete}
 use native.Mathlib.Omega.{arith}
 use lib.ListN.{length, take, drop, getD, set, length-append, length-set}
-use lib.Seq.{paste, length-paste, append-snoc, take-take, take-add, drop-drop, take-append-seam, drop-append-seam, take-suc-set, getD-set-same, getD-set-other}
+use lib.Seq.{paste, append-snoc, take-take, take-add, drop-drop, take-append-seam, drop-append-seam, take-suc-set, getD-set-same, getD-set-other}
 use Rattle.null_bits.specs.Bits.{validAt}
 use Rattle.null_bits.specs.Runs.{putBits}
 use Rattle.null_bits.specs.RunLaws.{bits-read}
-use Rattle.views.specs.View.{viewSize, viewAt}
 use Rattle.column.specs.declared.Block.{Block}
 use Rattle.column.specs.Lent.{Lent, buffers, block, blockAt}
 use Rattle.column.specs.Meaning.{bytesOf, blocksOf}
-use Rattle.column.specs.Laid.{rowsOf, flat, putViews, putTable}
-use Rattle.showing.specs.Stores.{rows-same, views-paste, paste-here, blocks-paste}
-
--- each is a view's sixteen bytes
-abbrev pub Sized : List (List ℕ) → Type 0
-Sized [] = Unit {0}
-Sized (v ∷ vs) = (length v ≡ viewSize) × Sized vs
-
-pub length-put-views : (s : List ℕ) (r : ℕ) (vs : List (List ℕ)) → Sized vs → viewSize * (r + length vs) ≤ length s → length (putViews s r vs) ≡ length s
-unfolding putViews
-length-put-views s r [] h k = refl
-length-put-views s r (v ∷ vs) h k =
-    let e : length (paste s (16 * r) v 16) ≡ length s = length-paste s (16 * r) v 16 (omega arith) (omega arith) in
-    length-put-views (paste s (16 * r) v 16) (suc r) vs (h .1) (omega arith) ∙ e
-
-pub views-put : (s : List ℕ) (r : ℕ) (vs : List (List ℕ)) → Sized vs → viewSize * (r + length vs) ≤ length s
-    → rowsOf (viewAt (putViews s r vs)) (r + length vs) ≡ rowsOf (viewAt s) r ++ vs
-unfolding putViews
-views-put s r [] h k = rw (add-zero r) (sym (append-nil (rowsOf (viewAt s) r)))
-views-put s r (v ∷ vs) h k =
-    let e : length (paste s (16 * r) v 16) ≡ length s = length-paste s (16 * r) v 16 (omega arith) (omega arith) in
-    let n : r + suc (length vs) ≡ suc r + length vs = omega arith in
-    rw n
-    (views-put (paste s (16 * r) v 16) (suc r) vs (h .1) (omega arith)
-    ∙ rw (views-paste s v r (h .0) (omega arith)) (append-snoc (rowsOf (viewAt s) r) v vs))
+use Rattle.column.specs.Laid.{rowsOf, flat, putTable}
+use Rattle.showing.specs.Stores.{rows-same, paste-here, blocks-paste}
 
 pub length-put-table : (t : List Block) (k at : ℕ) (xs : List (List ℕ)) → length (putTable t k at xs) ≡ length t
 unfolding putTable
@@ -103,23 +79,6 @@ table-ends t k at (x ∷ xs) r h j i =
         (λ e. rw (e, getD-set-same t k (block at (length x)) (block 0 0) (omega arith)) (omega arith))
         (λ e. rw (getD-set-other t k j (block at (length x)) (block 0 0) e) (omega (arith, h j (omega arith))))
 
--- from the first row and block on: all that a column whose first row is 0 has
-pub views-anew : (s : List ℕ) (vs : List (List ℕ)) (n : ℕ) → length vs ≡ n → Sized vs → viewSize * n ≤ length s
-    → rowsOf (λ i. viewAt (putViews s 0 vs) (0 + i)) n ≡ vs
-unfolding rowsOf
-views-anew s vs n e h k =
-    let q : n ≡ 0 + length vs = omega arith in
-    rows-same (λ i. viewAt (putViews s 0 vs) (0 + i)) (viewAt (putViews s 0 vs)) n (λ i j. rw (zero-add i))
-    ∙ ap (rowsOf (viewAt (putViews s 0 vs))) q ∙ views-put s 0 vs h (omega arith)
-
 pub bits-anew : (m : List ℕ) (f : ℕ → Bool) (n : ℕ) → n ≤ 8 * length m → rowsOf (λ i. validAt (putBits m 0 f n) true (0 + i)) n ≡ rowsOf f n
 unfolding validAt
 bits-anew m f n h = rows-same (λ i. validAt (putBits m 0 f n) true (0 + i)) f n (λ i k. bits-read m 0 f n i (omega arith) k)
-
-pub blocks-anew : (l : Lent) (xs : List (List ℕ)) (vs ns : List ℕ) → length xs ≤ length (l .table) → length (flat xs) ≤ length (l .bytes)
-    → blocksOf (buffers vs (paste (l .bytes) 0 (flat xs) (length (flat xs))) (putTable (l .table) 0 0 xs) ns) (length xs) ≡ xs
-unfolding blocksOf
-blocks-anew l xs vs ns h k =
-    let q : length xs ≡ 0 + length xs = omega arith in
-    let m : Lent = buffers vs (paste (l .bytes) 0 (flat xs) (length (flat xs))) (putTable (l .table) 0 0 xs) ns in
-    ap (blocksOf m) q ∙ blocks-put l 0 0 xs vs ns (omega arith) (λ j i. absurd (omega arith)) (omega arith)

@@ -60,17 +60,17 @@ pub data-room-same : (l m : Lent) → length (l .bytes) ≡ length (m .bytes) �
 unfolding dataRoom
 data-room-same l m e = rw e
 
-pub record Fitting (l : Lent) (c : Column) : Type 0 where
+pub record RoomsFit (l : Lent) (c : Column) : Type 0 where
   pub rows : c .first + c .rows ≤ rowRoom (c .mapped) l
   pub blocks : c .blocks ≤ blockRoom l
 
-pub fitting : (l : Lent) (c : Column) → fits l c ≡ true → Fitting l c
+pub fitting : (l : Lent) (c : Column) → fits l c ≡ true → RoomsFit l c
 unfolding fits
 fitting l c e =
     let p = both (leb (c .first + c .rows) (rowRoom (c .mapped) l)) (leb (c .blocks) (blockRoom l)) e in
     record { rows = leb-true (c .first + c .rows) (rowRoom (c .mapped) l) (p .0); blocks = leb-true (c .blocks) (blockRoom l) (p .1) }
 
-pub fitted : (l : Lent) (c : Column) → Fitting l c → fits l c ≡ true
+pub fitted : (l : Lent) (c : Column) → RoomsFit l c → fits l c ≡ true
 unfolding fits
 fitted l c f = rw (le-leb (c .first + c .rows) (rowRoom (c .mapped) l) (f .rows), le-leb (c .blocks) (blockRoom l) (f .blocks))
 

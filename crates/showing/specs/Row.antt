@@ -1,15 +1,15 @@
 -- A view that shows a value, by its fields; the views that are made show theirs. Assumes nothing.
-use mathlib.Core.Path.{_≡_, refl}
+use mathlib.Core.Path.{_≡_}
 use mathlib.Core.Bool.{true, false}
 use mathlib.Core.List.{List, [], _∷_, _++_}
 use Prim.Native.Nat.{ℕ, _+_, _^_, _≤_, _<_}
 use native.Mathlib.Omega.{arith}
 use borrow.Author.Tests.{le-leb, lt-leb}
-use lib.ListN.{length, getD, replicate, length-append}
+use lib.ListN.{length, getD, length-append}
 use lib.Seq.{take-length, drop-append-seam, getD-append-seam}
 use Rattle.words.specs.Words.{pad}
-use Rattle.views.specs.View.{viewSize, shortMost, isShort, lengthOf, prefixOf, bodyOf, blockOf, offsetOf, shortView, longView, zeroView}
-use Rattle.views.specs.ViewLaws.{length-short, short-length, short-body, short-prefix, short-value, length-long, long-length, long-prefix, long-block, long-offset, zero-view}
+use Rattle.views.specs.View.{viewSize, shortMost, isShort, lengthOf, prefixOf, bodyOf, blockOf, offsetOf, shortView, longView}
+use Rattle.views.specs.ViewLaws.{length-short, short-length, short-body, short-prefix, short-value, length-long, long-length, long-prefix, long-block, long-offset}
 use Rattle.column.specs.Meaning.{part, shown}
 
 -- the view v, over the blocks bs, shows x: its fields are those of x, and a long value lies in its block
@@ -39,14 +39,6 @@ short-row bs x h =
       val = rw (l, le-leb (length x) shortMost h) (short-value x h);
       reach = λ k. absurd (omega arith);
     }
-
--- a null row's view shows the empty value
-zeros-view : zeroView ≡ replicate viewSize 0
-unfolding zeroView pad
-zeros-view = refl
-
-pub zero-row : (bs : List (List ℕ)) → Row bs (replicate viewSize 0) []
-zero-row bs = rw (← zeros-view, zero-view) (short-row bs [] (omega arith))
 
 pub long-row : (bs : List (List ℕ)) (x : List ℕ) (b o : ℕ) → shortMost < length x → Fits x b o → o + length x ≤ length (getD bs b [])
     → part bs b o (length x) ≡ x

@@ -10,7 +10,7 @@ use Rattle.views.specs.ViewLaws.{length-view}
 use Rattle.column.specs.declared.Kind.{Kind}
 use Rattle.column.specs.declared.Column.{Column}
 use Rattle.column.specs.Lent.{Lent, fits}
-use Rattle.column.specs.Meaning.{rowView, blocksOf, shownAt, validAt}
+use Rattle.column.specs.Meaning.{rowView, blocksOf, shownAt, rowValid}
 use Rattle.column.specs.Truth.{trueAt, reachableAt}
 use Rattle.column.specs.Laid.{rowsOf, viewsOf, bitsOf}
 use Rattle.showing.specs.Row.{Row}
@@ -53,9 +53,9 @@ module _ {l : Lent} {c : Column} {xs : List (List ℕ)} {bs : List Bool} (s : Sh
   pub shows-reach : (r : ℕ) → r < c .rows → reachableAt l c r ≡ true
   shows-reach r h = row-reachable l (c .blocks) (s .inside) (shows-row r h)
 
-  pub shows-bit : (r : ℕ) → r < c .rows → validAt l c r ≡ getD bs r true
+  pub shows-bit : (r : ℕ) → r < c .rows → rowValid l c r ≡ getD bs r true
   unfolding bitsOf
-  shows-bit r h = sym (getD-rows (validAt l c) (c .rows) r true h) ∙ ap (λ (b : List Bool). getD b r true) (s .bits)
+  shows-bit r h = sym (getD-rows (rowValid l c) (c .rows) r true h) ∙ ap (λ (b : List Bool). getD b r true) (s .bits)
 
 pub rows-by : (bs : List (List ℕ)) (f g : ℕ → List ℕ) (n : ℕ) → ((i : ℕ) → i < n → Row bs (f i) (g i)) → Rows bs (rowsOf f n) (rowsOf g n)
 unfolding rowsOf

@@ -17,9 +17,9 @@ use lib.Seq.{drop-cons, drop-drop, drop-length}
 use Rattle.basis.specs.Pick.{pick}
 use Rattle.words.specs.Words.{Bytes, wordAt}
 use Rattle.words.specs.WordLaws.{word-lt}
-use Rattle.utf8.specs.Table.{Range, _‥_, table, within, fits, led, ledBy, front, badAfter, walk}
+use Rattle.utf8.specs.Table.{Range, _‥_, table, within, inRanges, led, ledBy, frontLength, badAfter, walk}
 use Rattle.utf8.specs.Lead.{next, nexts, tailsOf}
-use Rattle.utf8.specs.Text.{under, over, lead-row, fits-none, bad-skip, judge-one, judge-none}
+use Rattle.utf8.specs.Text.{under, above-range, lead-row, fits-none, bad-skip, judge-one, judge-none}
 
 -- lead bytes
 
@@ -28,7 +28,7 @@ pub lead-80 : (b : ℕ) → 0x80 ≤ b → b ≤ 0xC1 → led b table ≡ []
 unfolding led
 lead-80 b p q =
     simp (
-      over b (0x00 ‥ 0x7F) (omega arith),
+      above-range b (0x00 ‥ 0x7F) (omega arith),
       under b (0xC2 ‥ 0xDF) (omega arith),
       under b (0xE0 ‥ 0xE0) (omega arith),
       under b (0xE1 ‥ 0xEC) (omega arith),
@@ -43,20 +43,20 @@ pub lead-F5 : (b : ℕ) → 0xF5 ≤ b → led b table ≡ []
 unfolding led
 lead-F5 b p =
     simp (
-      over b (0x00 ‥ 0x7F) (omega arith),
-      over b (0xC2 ‥ 0xDF) (omega arith),
-      over b (0xE0 ‥ 0xE0) (omega arith),
-      over b (0xE1 ‥ 0xEC) (omega arith),
-      over b (0xED ‥ 0xED) (omega arith),
-      over b (0xEE ‥ 0xEF) (omega arith),
-      over b (0xF0 ‥ 0xF0) (omega arith),
-      over b (0xF1 ‥ 0xF3) (omega arith),
-      over b (0xF4 ‥ 0xF4) (omega arith),
+      above-range b (0x00 ‥ 0x7F) (omega arith),
+      above-range b (0xC2 ‥ 0xDF) (omega arith),
+      above-range b (0xE0 ‥ 0xE0) (omega arith),
+      above-range b (0xE1 ‥ 0xEC) (omega arith),
+      above-range b (0xED ‥ 0xED) (omega arith),
+      above-range b (0xEE ‥ 0xEF) (omega arith),
+      above-range b (0xF0 ‥ 0xF0) (omega arith),
+      above-range b (0xF1 ‥ 0xF3) (omega arith),
+      above-range b (0xF4 ‥ 0xF4) (omega arith),
     )
 
 -- the lead byte at i, and what follows it
-pub front-at : (s : List ℕ) (i : ℕ) {ts : List (List Range)} → i < length s → led (getD s i 0) table ≡ ts → front (drop i s) ≡ ledBy ts (drop (i + 1) s)
-unfolding front
+pub front-at : (s : List ℕ) (i : ℕ) {ts : List (List Range)} → i < length s → led (getD s i 0) table ≡ ts → frontLength (drop i s) ≡ ledBy ts (drop (i + 1) s)
+unfolding frontLength
 front-at s i h e = rw (drop-cons s i 0 h, add-one i, e)
 
 -- the bytes after the lead
@@ -71,14 +71,14 @@ pub too-few : (n : ℕ) (r : Range) (s : List ℕ) (i : ℕ) → i < length s �
 unfolding tailsOf ledBy
 too-few n r s i g m h = rw (fits-none (r ∷ nexts (n - 2)) (drop (i + 1) s) (simp (length-drop, nexts-length (n - 2)) (omega arith)))
 
-fits-one : (r : Range) (rs : List Range) (s : List ℕ) (i j : ℕ) → i < length s → j ≡ suc i → fits (r ∷ rs) (drop i s) ≡ within (getD s i 0) r && fits
+fits-one : (r : Range) (rs : List Range) (s : List ℕ) (i j : ℕ) → i < length s → j ≡ suc i → inRanges (r ∷ rs) (drop i s) ≡ within (getD s i 0) r && inRanges
     rs (drop j s)
-unfolding fits
+unfolding inRanges
 fits-one r rs s i j h e = rw (drop-cons s i 0 h, e)
 
 -- the second byte by its range, the others as bytes that go on
 pub led-more : (n : ℕ) (r : Range) (s : List ℕ) (i : ℕ) → 2 ≤ n → i + n ≤ length s
-    → pick (within (getD s (i + 1) 0) r && fits (nexts (i + n - (i + 2))) (drop (i + 2) s)) n 0 ≡ ledBy (tailsOf n r) (drop (i + 1) s)
+    → pick (within (getD s (i + 1) 0) r && inRanges (nexts (i + n - (i + 2))) (drop (i + 2) s)) n 0 ≡ ledBy (tailsOf n r) (drop (i + 1) s)
 unfolding tailsOf ledBy
 led-more n r s i m h =
     let left : i + n - (i + 2) ≡ n - 2 = omega arith in
@@ -90,24 +90,24 @@ and-true true = refl
 and-true false = refl
 
 -- one byte more goes on
-pub nexts-on : (s : List ℕ) (k e : ℕ) → k < e → e ≤ length s → fits (nexts (e - k)) (drop k s) ≡ within (getD s k 0) next && fits
+pub nexts-on : (s : List ℕ) (k e : ℕ) → k < e → e ≤ length s → inRanges (nexts (e - k)) (drop k s) ≡ within (getD s k 0) next && inRanges
     (nexts (e - (k + 1))) (drop (k + 1) s)
 unfolding nexts
 nexts-on s k e h l =
     let one : e - k ≡ suc (e - (k + 1)) = omega arith in
     rw one (fits-one next (nexts (e - (k + 1))) s k (k + 1) (omega arith) (omega arith))
 
-pub nexts-end : (s : List ℕ) (k e : ℕ) → k ≡ e → fits (nexts (e - k)) (drop k s) ≡ true
-unfolding nexts fits
+pub nexts-end : (s : List ℕ) (k e : ℕ) → k ≡ e → inRanges (nexts (e - k)) (drop k s) ≡ true
+unfolding nexts inRanges
 nexts-end s k e h = let none : e - k ≡ 0 = omega arith in rw none
 
-pub nexts-last : (s : List ℕ) (k e : ℕ) → k + 1 ≡ e → e ≤ length s → fits (nexts (e - k)) (drop k s) ≡ within (getD s k 0) next
+pub nexts-last : (s : List ℕ) (k e : ℕ) → k + 1 ≡ e → e ≤ length s → inRanges (nexts (e - k)) (drop k s) ≡ within (getD s k 0) next
 nexts-last s k e h l = rw (nexts-on s k e (omega arith) l, nexts-end s (k + 1) e h) (and-true (within (getD s k 0) next))
 
 -- the walk
 
 -- a sequence is passed
-pub bad-step : (s : List ℕ) (i n : ℕ) → i < length s → n ≡ front (drop i s) → (n ≡ 0 → ⊥) → i + n ≤ length s → walk (drop i s) ≡ n + walk (drop (i + n) s)
+pub bad-step : (s : List ℕ) (i n : ℕ) → i < length s → n ≡ frontLength (drop i s) → (n ≡ 0 → ⊥) → i + n ≤ length s → walk (drop i s) ≡ n + walk (drop (i + n) s)
 bad-step s i zero h e z l = absurd (z refl)
 bad-step s i (suc n) h e z l =
     let d = drop-cons s i 0 h in
@@ -117,7 +117,7 @@ bad-step s i (suc n) h e z l =
     ∙ ap suc (bad-skip n (drop (suc i) s) (simp length-drop (omega arith)))
     ∙ rw (drop-drop n (suc i) s, at) (omega arith))
 
-pub bad-here : (s : List ℕ) (i : ℕ) → i < length s → 0 ≡ front (drop i s) → walk (drop i s) ≡ 0
+pub bad-here : (s : List ℕ) (i : ℕ) → i < length s → 0 ≡ frontLength (drop i s) → walk (drop i s) ≡ 0
 bad-here s i h e =
     let d = drop-cons s i 0 h in
     rw d (judge-none (getD s i 0) (drop (suc i) s) (rw (← d) (sym e)))
@@ -129,7 +129,7 @@ bad-end s i e = rw (e, drop-length s)
 -- runs of ASCII bytes
 
 pub ascii-one : (s : List ℕ) (i : ℕ) → i < length s → getD s i 0 ≤ 127 → walk (drop i s) ≡ 1 + walk (drop (i + 1) s)
-unfolding ledBy fits
+unfolding ledBy inRanges
 ascii-one s i h a =
     bad-step s i 1 h (sym (front-at s i h (lead-row 0 (getD s i 0) 0x00 0x7F [] (omega arith) refl (omega arith) a))) (λ e. omega arith) (omega arith)
 

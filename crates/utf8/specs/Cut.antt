@@ -9,7 +9,7 @@ use borrow.Author.Tests.{leb-true, leb-false}
 use lib.Dec.{leb}
 use lib.ListN.{length, take, drop, getD, List·getD-append, List·getD-eq-default}
 use lib.Seq.{getD-drop, drop-append-add, take-append-add, getD-append-add}
-use Rattle.utf8.specs.Table.{Range, table, rowAt, within, fits, WellFormed, none, more, wellFormed}
+use Rattle.utf8.specs.Table.{Range, table, rowAt, within, inRanges, WellFormed, none, more, wellFormed}
 use Rattle.utf8.specs.Text.{and-both, formed-yes, yes-formed}
 
 -- the byte at a place continues no sequence; the end is such a place
@@ -35,29 +35,29 @@ table-tailed : (k : ℕ) → k < length table → conts (drop 1 (rowAt k)) ≡ t
 unfolding tailed conts
 table-tailed k h = row-tailed table k refl h
 
-conts-fit : (rs : List Range) (t : List ℕ) (i : ℕ) → conts rs ≡ true → fits rs t ≡ true → i < length rs → (0x80 ≤ getD t i 0) × (getD t i 0 ≤ 0xBF)
-unfolding fits within conts
+conts-fit : (rs : List Range) (t : List ℕ) (i : ℕ) → conts rs ≡ true → inRanges rs t ≡ true → i < length rs → (0x80 ≤ getD t i 0) × (getD t i 0 ≤ 0xBF)
+unfolding inRanges within conts
 conts-fit [] t i c f h = absurd (not-suc-le-zero h)
 conts-fit (r ∷ rs) [] i c f h = absurd (true≢false (sym f))
 conts-fit (r ∷ rs) (b ∷ t) zero c f h =
     let p = and-both (leb 0x80 (r .lo)) (leb (r .hi) 0xBF) (and-both (leb 0x80 (r .lo) && leb (r .hi) 0xBF) (conts rs) c .0) in
-    let q = and-both (leb (r .lo) b) (leb b (r .hi)) (and-both (leb (r .lo) b && leb b (r .hi)) (fits rs t) f .0) in
+    let q = and-both (leb (r .lo) b) (leb b (r .hi)) (and-both (leb (r .lo) b && leb b (r .hi)) (inRanges rs t) f .0) in
     let a = leb-true 0x80 (r .lo) (p .0) in
     let d = leb-true (r .hi) 0xBF (p .1) in
     let x = leb-true (r .lo) b (q .0) in
     let y = leb-true b (r .hi) (q .1) in
     (omega arith, omega arith)
 conts-fit (r ∷ rs) (b ∷ t) (suc i) c f h =
-    conts-fit rs t i (and-both (leb 0x80 (r .lo) && leb (r .hi) 0xBF) (conts rs) c .1) (and-both (leb (r .lo) b && leb b (r .hi)) (fits rs t) f .1)
+    conts-fit rs t i (and-both (leb 0x80 (r .lo) && leb (r .hi) 0xBF) (conts rs) c .1) (and-both (leb (r .lo) b && leb b (r .hi)) (inRanges rs t) f .1)
     (omega arith)
 
-row-fit : (row : List Range) (t : List ℕ) (i : ℕ) → conts (drop 1 row) ≡ true → fits row t ≡ true → 0 < i → i < length row → (0x80 ≤ getD t i 0)
+row-fit : (row : List Range) (t : List ℕ) (i : ℕ) → conts (drop 1 row) ≡ true → inRanges row t ≡ true → 0 < i → i < length row → (0x80 ≤ getD t i 0)
     × (getD t i 0 ≤ 0xBF)
-unfolding fits
+unfolding inRanges
 row-fit [] t i c f p h = absurd (not-suc-le-zero h)
 row-fit (r ∷ rs) [] i c f p h = absurd (true≢false (sym f))
 row-fit (r ∷ rs) (b ∷ t) zero c f p h = absurd (not-suc-le-zero p)
-row-fit (r ∷ rs) (b ∷ t) (suc i) c f p h = conts-fit rs t i c (and-both (within b r) (fits rs t) f .1) (omega arith)
+row-fit (r ∷ rs) (b ∷ t) (suc i) c f p h = conts-fit rs t i c (and-both (within b r) (inRanges rs t) f .1) (omega arith)
 
 abbrev pub Halves : List ℕ → ℕ → Type 0
 Halves s o = WellFormed (take o s) × WellFormed (drop o s)

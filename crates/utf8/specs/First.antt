@@ -9,23 +9,23 @@ use lib.Dec.{eqb, ltb}
 use lib.ListN.{length, getD, take, drop, take-append-drop}
 use lib.Seq.{length-take-le}
 use Rattle.basis.specs.Pick.{pick}
-use Rattle.utf8.specs.Table.{Range, table, rowAt, fits, WellFormed, front, badAfter, walk, wellFormed, isBad, lowestFrom, firstBad}
+use Rattle.utf8.specs.Table.{Range, table, rowAt, inRanges, WellFormed, frontLength, badAfter, walk, wellFormed, isBad, lowestFrom, firstBad}
 use Rattle.utf8.specs.Text.{fits-take, fits-length, row-front, front-row, judge-none, formed-skip, ended, formed-yes, yes-formed}
 
 -- everything before place i is well formed, and the bytes from there on begin with those of no row of the table
 pub record BadAt (s : List ℕ) (i : ℕ) : Type 0 where
   pub in-text : i ≤ length s
   pub before : WellFormed (take i s)
-  pub none-starts : (k : ℕ) → k < length table → fits (rowAt k) (drop i s) ≡ false
+  pub none-starts : (k : ℕ) → k < length table → inRanges (rowAt k) (drop i s) ≡ false
 
 -- no sequence at the front: the bytes fit no row
 
-none-front : (s : List ℕ) → ((k : ℕ) → k < length table → fits (rowAt k) s ≡ false) → front s ≡ 0
-unfolding front
+none-front : (s : List ℕ) → ((k : ℕ) → k < length table → inRanges (rowAt k) s ≡ false) → frontLength s ≡ 0
+unfolding frontLength
 none-front [] h = refl
-none-front (b ∷ s) h = by (front (b ∷ s)) refl
+none-front (b ∷ s) h = by (frontLength (b ∷ s)) refl
   where
-    by : (n : ℕ) → front (b ∷ s) ≡ n → n ≡ 0
+    by : (n : ℕ) → frontLength (b ∷ s) ≡ n → n ≡ 0
     by zero q = refl
     by (suc n) q = let f = front-row b n s q in absurd (true≢false (sym (f .fit) ∙ h (f .at) (f .in-rows)))
 
@@ -41,7 +41,8 @@ filled-at ([] ∷ rows) k e l = absurd (true≢false (sym e))
 filled-at ((r ∷ rs) ∷ rows) zero e l = omega arith
 filled-at ((r ∷ rs) ∷ rows) (suc k) e l = filled-at rows k e (omega arith)
 
-fit-front : (k b : ℕ) (s : List ℕ) (row : List Range) → k < length table → rowAt k ≡ row → 0 < length row → fits row (b ∷ s) ≡ true → front (b ∷ s) ≡ length row
+fit-front : (k b : ℕ) (s : List ℕ) (row : List Range) → k < length table → rowAt k ≡ row → 0 < length row → inRanges row (b ∷ s) ≡ true
+    → frontLength (b ∷ s) ≡ length row
 fit-front k b s [] l q p e = absurd (omega arith)
 fit-front k b s (r ∷ rs) l q p e =
     let most : suc (length rs) ≤ suc (length s) = fits-length (r ∷ rs) (b ∷ s) e in
@@ -49,14 +50,14 @@ fit-front k b s (r ∷ rs) l q p e =
     let at = row-front k b (take (length rs) s) (drop (length rs) s) (r ∷ rs) l q (ap suc len) (fits-take (r ∷ rs) (b ∷ s) e) in
     rw (take-append-drop (length rs) s) at at ∙ ap suc len
 
-front-none : (s : List ℕ) (k : ℕ) → front s ≡ 0 → k < length table → fits (rowAt k) s ≡ false
+front-none : (s : List ℕ) (k : ℕ) → frontLength s ≡ 0 → k < length table → inRanges (rowAt k) s ≡ false
 unfolding filled
-front-none s k e l = by s e (fits (rowAt k) s) refl
+front-none s k e l = by s e (inRanges (rowAt k) s) refl
   where
     some : 0 < length (rowAt k)
     some = filled-at table k refl l
 
-    by : (s : List ℕ) → front s ≡ 0 → (x : Bool) → fits (rowAt k) s ≡ x → x ≡ false
+    by : (s : List ℕ) → frontLength s ≡ 0 → (x : Bool) → inRanges (rowAt k) s ≡ x → x ≡ false
     by s e false q = refl
     by [] e true q = absurd (omega (arith, some, fits-length (rowAt k) [] q))
     by (b ∷ s) e true q = absurd (omega (arith, some, fit-front k b s (rowAt k) l refl some q))
@@ -85,25 +86,25 @@ walk-on s i h w =
     let on = formed-skip w (drop i s) in
     rw (take-append-drop i s, length-take-le i s h) at on
 
-stops : (s : List ℕ) → front s ≡ 0 → walk s ≡ 0
+stops : (s : List ℕ) → frontLength s ≡ 0 → walk s ≡ 0
 unfolding badAfter
 stops [] e = refl
 stops (b ∷ s) e = judge-none b s e
 
 not-before : (s : List ℕ) (j : ℕ) → j < walk s → isBad s j ≡ false
 unfolding isBad
-not-before s j h = by (wellFormed (take j s)) (eqb (front (drop j s)) 0) refl refl
+not-before s j h = by (wellFormed (take j s)) (eqb (frontLength (drop j s)) 0) refl refl
   where
-    by : (x y : Bool) → wellFormed (take j s) ≡ x → eqb (front (drop j s)) 0 ≡ y → wellFormed (take j s) && eqb (front (drop j s)) 0 ≡ false
+    by : (x y : Bool) → wellFormed (take j s) ≡ x → eqb (frontLength (drop j s)) 0 ≡ y → wellFormed (take j s) && eqb (frontLength (drop j s)) 0 ≡ false
     by false y p q = rw p
     by true false p q = rw (p, q)
     by true true p q =
         let on = walk-on s j (omega (arith, ended s .in-text)) (yes-formed (take j s) p) in
-        absurd (omega (arith, stops (drop j s) (eqb-true (front (drop j s)) 0 q)))
+        absurd (omega (arith, stops (drop j s) (eqb-true (frontLength (drop j s)) 0 q)))
 
 there : (s : List ℕ) → isBad s (walk s) ≡ true
 unfolding isBad
-there s = rw (formed-yes (take (walk s) s) (ended s .before), eq-eqb (front (drop (walk s) s)) 0 (ended s .none-there))
+there s = rw (formed-yes (take (walk s) s) (ended s .before), eq-eqb (frontLength (drop (walk s) s)) 0 (ended s .none-there))
 
 pub first-walk : (s : List ℕ) → firstBad s ≡ walk s
 unfolding firstBad
@@ -121,6 +122,7 @@ first-bad s =
     rw (first-walk s)
     (record { in-text = ended s .in-text; before = ended s .before; none-starts = λ k l. front-none (drop (walk s) s) k (ended s .none-there) l })
 
+-- no other place is the first bad one (an end theorem: nothing cites it)
 pub bad-first : (s : List ℕ) (i : ℕ) → BadAt s i → i ≡ firstBad s
 bad-first s i b =
     let on = walk-on s i (b .in-text) (b .before) in

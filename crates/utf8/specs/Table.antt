@@ -37,15 +37,15 @@ unfoldable pub within : ℕ → Range → Bool
 within b r = leb (r .lo) b && leb b (r .hi)
 
 -- the list begins with a byte of each range, one after the other
-unfoldable pub fits : List Range → List ℕ → Bool
-fits [] s = true
-fits (r ∷ rs) [] = false
-fits (r ∷ rs) (b ∷ s) = within b r && fits rs s
+unfoldable pub inRanges : List Range → List ℕ → Bool
+inRanges [] s = true
+inRanges (r ∷ rs) [] = false
+inRanges (r ∷ rs) (b ∷ s) = within b r && inRanges rs s
 
 -- well formed, as Unicode says it: sequences, one after the other, each with the bytes of a row of the table
 pub data WellFormed : List ℕ → Type 0 where
   none : WellFormed []
-  more : (k : ℕ) (t s : List ℕ) → k < length table → length t ≡ length (rowAt k) → fits (rowAt k) t ≡ true → WellFormed s → WellFormed (t ++ s)
+  more : (k : ℕ) (t s : List ℕ) → k < length table → length t ≡ length (rowAt k) → inRanges (rowAt k) t ≡ true → WellFormed s → WellFormed (t ++ s)
 
 -- the rows whose first range has b, without that range
 unfoldable pub led : ℕ → List (List Range) → List (List Range)
@@ -56,12 +56,12 @@ led b ((r ∷ rs) ∷ rows) = pick (within b r) (rs ∷ led b rows) (led b rows)
 -- how many bytes the sequence has whose lead byte left these rows, if the bytes after it fit one; 0 where they fit none
 unfoldable pub ledBy : List (List Range) → List ℕ → ℕ
 ledBy [] s = 0
-ledBy (rs ∷ rows) s = pick (fits rs s) (suc (length rs)) (ledBy rows s)
+ledBy (rs ∷ rows) s = pick (inRanges rs s) (suc (length rs)) (ledBy rows s)
 
 -- how many bytes the well-formed sequence at the front has; 0 where none begins there
-unfoldable pub front : List ℕ → ℕ
-front [] = 0
-front (b ∷ s) = ledBy (led b table) s
+unfoldable pub frontLength : List ℕ → ℕ
+frontLength [] = 0
+frontLength (b ∷ s) = ledBy (led b table) s
 
 -- 0 where no sequence begins; else what is said of the bytes that follow its first
 abbrev pub judged : ℕ → (ℕ → ℕ) → ℕ
@@ -72,7 +72,7 @@ judged (suc n) f = f n
 unfoldable pub badAfter : ℕ → List ℕ → ℕ
 badAfter k [] = 0
 badAfter (suc k) (b ∷ s) = suc (badAfter k s)
-badAfter zero (b ∷ s) = judged (front (b ∷ s)) (λ n. suc (badAfter n s))
+badAfter zero (b ∷ s) = judged (frontLength (b ∷ s)) (λ n. suc (badAfter n s))
 
 abbrev pub walk : List ℕ → ℕ
 walk s = badAfter 0 s
@@ -83,7 +83,7 @@ wellFormed s = eqb (walk s) (length s)
 
 -- everything before place i is well formed, and no well-formed sequence starts there
 unfoldable pub isBad : List ℕ → ℕ → Bool
-isBad s i = wellFormed (take i s) && eqb (front (drop i s)) 0
+isBad s i = wellFormed (take i s) && eqb (frontLength (drop i s)) 0
 
 -- the lowest of the n places from i on that p has; the place after them where it has none
 unfoldable pub lowestFrom : (ℕ → Bool) → ℕ → ℕ → ℕ

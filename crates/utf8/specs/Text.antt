@@ -9,7 +9,7 @@ use borrow.Author.Tests.{leb-true, leb-false, le-leb, lt-leb, ltb-true, eqb-true
 use lib.Dec.{leb, ltb}
 use lib.ListN.{length, getD, take, drop, length-append, length-drop}
 use lib.Seq.{drop-append-seam, length-take-le, take-length, take-add, drop-drop}
-use Rattle.utf8.specs.Table.{Range, _‥_, table, rowAt, within, fits, WellFormed, none, more, led, ledBy, front, badAfter, walk, wellFormed}
+use Rattle.utf8.specs.Table.{Range, _‥_, table, rowAt, within, inRanges, WellFormed, none, more, led, ledBy, frontLength, badAfter, walk, wellFormed}
 
 -- ranges
 
@@ -25,9 +25,9 @@ pub past-and : (x : Bool) → x && false ≡ false
 past-and true = refl
 past-and false = refl
 
-pub over : (b : ℕ) (r : Range) → r .hi < b → within b r ≡ false
+pub above-range : (b : ℕ) (r : Range) → r .hi < b → within b r ≡ false
 unfolding within
-over b r p = rw (lt-leb b (r .hi) p) (past-and (leb (r .lo) b))
+above-range b r p = rw (lt-leb b (r .hi) p) (past-and (leb (r .lo) b))
 
 pub and-both : (x y : Bool) → x && y ≡ true → (x ≡ true) × (y ≡ true)
 and-both true y e = (refl, e)
@@ -85,7 +85,7 @@ led-one ((a ∷ ts) ∷ rows) zero b r rs e l q w =
 led-one ((a ∷ ts) ∷ rows) (suc k) b r rs e l q w =
     let p = and-both (above (a .hi) rows) (ascending rows) e in
     let far : a .hi < r .lo = above-at (a .hi) rows k r rs (p .0) (omega arith) q in
-    rw (over b a (omega (arith, within-bounds b r w))) (led-one rows k b r rs (p .1) (omega arith) q w)
+    rw (above-range b a (omega (arith, within-bounds b r w))) (led-one rows k b r rs (p .1) (omega arith) q w)
 
 -- row k of the table, where b is in its first range
 led-row : (k b : ℕ) (r : Range) (rs : List Range) → k < length table → rowAt k ≡ r ∷ rs → within b r ≡ true → led b table ≡ rs ∷ []
@@ -96,29 +96,29 @@ lead-row k b l h rs n q p r = led-row k b (l ‥ h) rs n q (inside b l h p r)
 
 -- the bytes after the lead
 
-pub fits-none : (rs : List Range) (s : List ℕ) → length s < length rs → fits rs s ≡ false
-unfolding fits
+pub fits-none : (rs : List Range) (s : List ℕ) → length s < length rs → inRanges rs s ≡ false
+unfolding inRanges
 fits-none [] s h = absurd (omega arith)
 fits-none (r ∷ rs) [] h = refl
 fits-none (r ∷ rs) (b ∷ s) h = rw (fits-none rs s (omega arith)) (past-and (within b r))
 
-fits-append : (rs : List Range) (t s : List ℕ) → fits rs t ≡ true → fits rs (t ++ s) ≡ true
-unfolding fits
+fits-append : (rs : List Range) (t s : List ℕ) → inRanges rs t ≡ true → inRanges rs (t ++ s) ≡ true
+unfolding inRanges
 fits-append [] t s e = refl
 fits-append (r ∷ rs) [] s e = absurd (true≢false (sym e))
 fits-append (r ∷ rs) (b ∷ t) s e =
-    let p = and-both (within b r) (fits rs t) e in
+    let p = and-both (within b r) (inRanges rs t) e in
     rw (p .0, fits-append rs t s (p .1))
 
-pub fits-take : (rs : List Range) (s : List ℕ) → fits rs s ≡ true → fits rs (take (length rs) s) ≡ true
-unfolding fits
+pub fits-take : (rs : List Range) (s : List ℕ) → inRanges rs s ≡ true → inRanges rs (take (length rs) s) ≡ true
+unfolding inRanges
 fits-take [] s e = refl
 fits-take (r ∷ rs) [] e = absurd (true≢false (sym e))
 fits-take (r ∷ rs) (b ∷ s) e =
-    let p = and-both (within b r) (fits rs s) e in
+    let p = and-both (within b r) (inRanges rs s) e in
     rw (p .0, fits-take rs s (p .1))
 
-pub fits-length : (rs : List Range) (s : List ℕ) → fits rs s ≡ true → length rs ≤ length s
+pub fits-length : (rs : List Range) (s : List ℕ) → inRanges rs s ≡ true → length rs ≤ length s
 fits-length rs s e = by (leb (length rs) (length s)) refl
   where
     by : (x : Bool) → leb (length rs) (length s) ≡ x → length rs ≤ length s
@@ -127,37 +127,38 @@ fits-length rs s e = by (leb (length rs) (length s)) refl
 
 -- a sequence at the front is a row of the table, and back
 
-pub row-front : (k b : ℕ) (t s : List ℕ) (row : List Range) → k < length table → rowAt k ≡ row → length (b ∷ t) ≡ length row → fits row (b ∷ t) ≡ true
-    → front (b ∷ (t ++ s)) ≡ suc (length t)
-unfolding front fits ledBy
+pub row-front : (k b : ℕ) (t s : List ℕ) (row : List Range) → k < length table → rowAt k ≡ row → length (b ∷ t) ≡ length row → inRanges row (b ∷ t) ≡ true
+    → frontLength (b ∷ (t ++ s)) ≡ suc (length t)
+unfolding frontLength inRanges ledBy
 row-front k b t s [] l q n e = absurd (omega arith)
 row-front k b t s (r ∷ rs) l q n e =
-    let p = and-both (within b r) (fits rs t) e in
+    let p = and-both (within b r) (inRanges rs t) e in
     rw (led-row k b r rs l q (p .0), fits-append rs t s (p .1)) (sym n)
 
 -- the row whose ranges the bytes at the front have
-pub record Found (rows : List (List Range)) (s : List ℕ) (n : ℕ) : Type 0 where
+pub record RowFound (rows : List (List Range)) (s : List ℕ) (n : ℕ) : Type 0 where
   pub at : ℕ
   pub in-rows : at < length rows
-  pub fit : fits (getD rows at []) s ≡ true
+  pub fit : inRanges (getD rows at []) s ≡ true
   pub len : length (getD rows at []) ≡ n
 
-found-later : (row : List Range) (rows : List (List Range)) (s : List ℕ) (n : ℕ) → Found rows s n → Found (row ∷ rows) s n
+found-later : (row : List Range) (rows : List (List Range)) (s : List ℕ) (n : ℕ) → RowFound rows s n → RowFound (row ∷ rows) s n
 found-later row rows s n f = record { at = suc (f .at); in-rows = omega (arith, f .in-rows); fit = f .fit; len = f .len }
 
-found : (rows : List (List Range)) (b n : ℕ) (s : List ℕ) → ledBy (led b rows) s ≡ suc n → Found rows (b ∷ s) (suc n)
-unfolding led ledBy fits
+found : (rows : List (List Range)) (b n : ℕ) (s : List ℕ) → ledBy (led b rows) s ≡ suc n → RowFound rows (b ∷ s) (suc n)
+unfolding led ledBy inRanges
 found [] b n s e = let z : _≡_ {A = ℕ} 0 (suc n) = e in absurd (omega arith)
 found ([] ∷ rows) b n s e = found-later [] rows (b ∷ s) (suc n) (found rows b n s e)
-found ((r ∷ rs) ∷ rows) b n s e = by (within b r) (fits rs s) refl refl (found rows b n s)
+found ((r ∷ rs) ∷ rows) b n s e = by (within b r) (inRanges rs s) refl refl (found rows b n s)
   where
-    by : (x y : Bool) → within b r ≡ x → fits rs s ≡ y → (ledBy (led b rows) s ≡ suc n → Found rows (b ∷ s) (suc n)) → Found ((r ∷ rs) ∷ rows) (b ∷ s) (suc n)
+    by : (x y : Bool) → within b r ≡ x → inRanges rs s ≡ y → (ledBy (led b rows) s ≡ suc n → RowFound rows (b ∷ s) (suc n))
+        → RowFound ((r ∷ rs) ∷ rows) (b ∷ s) (suc n)
     by true true p q ih = record { at = 0; in-rows = omega arith; fit = rw (p, q); len = rw (p, q) at e }
     by true false p q ih = found-later (r ∷ rs) rows (b ∷ s) (suc n) (ih (rw (p, q) at e))
     by false y p q ih = found-later (r ∷ rs) rows (b ∷ s) (suc n) (ih (rw p at e))
 
-pub front-row : (b n : ℕ) (s : List ℕ) → front (b ∷ s) ≡ suc n → Found table (b ∷ s) (suc n)
-unfolding front
+pub front-row : (b n : ℕ) (s : List ℕ) → frontLength (b ∷ s) ≡ suc n → RowFound table (b ∷ s) (suc n)
+unfolding frontLength
 front-row b n s e = found table b n s e
 
 -- the walk from sequence to sequence
@@ -168,11 +169,11 @@ bad-skip zero s h = sym (zero-add (badAfter 0 s))
 bad-skip (suc k) [] h = absurd (omega arith)
 bad-skip (suc k) (b ∷ s) h = rw (bad-skip k s (omega arith)) (omega arith)
 
-pub judge-one : (b n : ℕ) (s : List ℕ) → front (b ∷ s) ≡ suc n → walk (b ∷ s) ≡ suc (badAfter n s)
+pub judge-one : (b n : ℕ) (s : List ℕ) → frontLength (b ∷ s) ≡ suc n → walk (b ∷ s) ≡ suc (badAfter n s)
 unfolding badAfter
 judge-one b n s e = rw e
 
-pub judge-none : (b : ℕ) (s : List ℕ) → front (b ∷ s) ≡ 0 → walk (b ∷ s) ≡ 0
+pub judge-none : (b : ℕ) (s : List ℕ) → frontLength (b ∷ s) ≡ 0 → walk (b ∷ s) ≡ 0
 unfolding badAfter
 judge-none b s e = rw e
 
@@ -192,27 +193,27 @@ formed-skip (more k (b ∷ t) s l n e w) u =
 pub record Ended (s : List ℕ) : Type 0 where
   pub in-text : walk s ≤ length s
   pub before : WellFormed (take (walk s) s)
-  pub none-there : front (drop (walk s) s) ≡ 0
+  pub none-there : frontLength (drop (walk s) s) ≡ 0
 
 -- shown for lists of at most n bytes, one n after the other
 abbrev EndedTo : ℕ → Type 0
 EndedTo n = (s : List ℕ) → length s ≤ n → Ended s
 
 ended-none : Ended []
-unfolding badAfter front
+unfolding badAfter frontLength
 ended-none = record { in-text = omega arith; before = none; none-there = refl }
 
 ended-next : (n : ℕ) → EndedTo n → EndedTo (suc n)
 ended-next n ih [] h = ended-none
-ended-next n ih (b ∷ s) h = by (front (b ∷ s)) refl
+ended-next n ih (b ∷ s) h = by (frontLength (b ∷ s)) refl
   where
-    by : (k : ℕ) → front (b ∷ s) ≡ k → Ended (b ∷ s)
+    by : (k : ℕ) → frontLength (b ∷ s) ≡ k → Ended (b ∷ s)
     by zero q =
         let z = judge-none b s q in
         record { in-text = rw z (omega arith); before = rw z none; none-there = rw z q }
     by (suc m) q =
         let f = front-row b m s q in
-        let fit : fits (rowAt (f .at)) (take (suc m) (b ∷ s)) ≡ true = rw (f .len) at (fits-take (rowAt (f .at)) (b ∷ s) (f .fit)) in
+        let fit : inRanges (rowAt (f .at)) (take (suc m) (b ∷ s)) ≡ true = rw (f .len) at (fits-take (rowAt (f .at)) (b ∷ s) (f .fit)) in
         let most : suc m ≤ length (b ∷ s) = rw (f .len) at (fits-length (rowAt (f .at)) (b ∷ s) (f .fit)) in
         let len : length (take (suc m) (b ∷ s)) ≡ suc m = length-take-le (suc m) (b ∷ s) most in
         let left : length (drop m s) ≡ length s - m = length-drop m s in

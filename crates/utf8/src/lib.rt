@@ -2,7 +2,7 @@
 ghost use mathlib.Core.Path.{_≡_};
 ghost use Prim.Native.Nat.{_+_, _-_, _≤_, _<_};
 ghost use lib.ListN.{length, drop, getD};
-ghost use Rattle.utf8.specs.Table.{table, led, ledBy, within, fits, front, firstBad, wellFormed, _‥_};
+ghost use Rattle.utf8.specs.Table.{table, led, ledBy, within, inRanges, frontLength, firstBad, wellFormed, _‥_};
 ghost use Rattle.utf8.specs.Lead.{tailsOf, tails, nexts, Passed};
 
 // What a lead byte says: how many bytes its sequence has, and the bounds of the second one.
@@ -44,7 +44,7 @@ fn in_range(b: u8, lo: u8, hi: u8) -> bool
 // In a sequence of n bytes whose lead is at i: does each byte after the second one go on with it?
 fn goes_on(s: &[u8], i: usize, n: usize) -> bool
     requires { ⌜ (i + n ≤ length (now s)) × (2 ≤ n) × (n ≤ 4) ⌝ }
-    ensures { λ r. ⌜ r ≡ fits (nexts (i + n - (i + 2))) (drop (i + 2) (now (s .entry))) ⌝ }
+    ensures { λ r. ⌜ r ≡ inRanges (nexts (i + n - (i + 2))) (drop (i + 2) (now (s .entry))) ⌝ }
 {
     if n == 2 {
         return true;
@@ -78,7 +78,7 @@ fn more(s: &[u8], i: usize, n: usize, lo: u8, hi: u8) -> usize
 // How many bytes the sequence at i has; 0 where it is ill-formed.
 fn seq(s: &[u8], i: usize) -> usize
     requires { ⌜ i < length (now s) ⌝ }
-    ensures { λ r. ⌜ (r ≡ front (drop i (now (s .entry)))) × (i + r ≤ length (now (s .entry))) ⌝ }
+    ensures { λ r. ⌜ (r ≡ frontLength (drop i (now (s .entry)))) × (i + r ≤ length (now (s .entry))) ⌝ }
 {
     let l = lead_of(s[i]);
     match l {

@@ -1,20 +1,22 @@
 // The calls that add a value, a value n times, or a null, and the search of the merge table. The state goes in by value and comes back; the buffers are lent.
 ghost use mathlib.Core.Path.{_≡_};
 ghost use mathlib.Core.Bool.{true, false, not, _&&_};
-ghost use Prim.Native.Nat.{ℕ, suc, _+_, _*_, _^_, _≤_, _<_, max};
+ghost use Prim.Native.Nat.{ℕ, suc, _+_, _-_, _*_, _^_, _≤_, _<_, max};
 ghost use lib.Dec.{leb, eqb};
-ghost use lib.ListN.{length};
+ghost use lib.ListN.{length, take, drop};
 ghost use lib.Seq.{paste};
 ghost use Rattle.basis.specs.Pick.{pick};
 ghost use Rattle.bounds.specs.Bounds.{rowLimit, blockLimit};
 ghost use Rattle.bounds.specs.Refusals.{refuse};
-ghost use Rattle.views.specs.View.{viewAt};
+ghost use Rattle.words.specs.Words.{putWord};
+ghost use Rattle.views.specs.View.{shortMost, viewAt};
 ghost use Rattle.growth.specs.Growing.{fitsGrowth};
 ghost use Rattle.merging.specs.Table.{isRow, rowOf, entered, after};
 ghost use Rattle.column.specs.Room.{bare};
+ghost use Rattle.column.specs.Truth.{ofKind};
 ghost use Rattle.builder.specs.State.{held, allBlocks, used, fitsRooms, closed, sized, fitsOpen, roomed, laid, rowed};
 ghost use Rattle.builder.specs.Rooms.{openStarts, openLens, showsRow, Ready};
-ghost use Rattle.builder.specs.Values.{merges, foundBy, whyLay, whyRow, whyStore, whyValues, putValue, putValues, whyNull, putNull};
+ghost use Rattle.builder.specs.Values.{merges, foundBy, whyLay, whyRows, whyStore, whyValues, putValue, putValues, whyNull, putNull};
 ghost use Rattle.builder.specs.Does.{Does};
 ghost use Rattle.builder.specs.TimesLaws.{putCopies, rowedBy};
 ghost use Rattle.builder.specs.RoomLaws.{Judged};
@@ -26,15 +28,25 @@ use builder::State;
 use column::Kind;
 use merging::Found;
 
+// Whether a value is one of the kind: only a text is looked at, and only for it is anything called.
+fn of_kind(kind: Kind, x: &[u8]) -> bool
+    ensures { λ r. ⌜ r ≡ ofKind kind (now (x .entry)) ⌝ }
+{
+    match kind {
+        Kind::Binary => true,
+        Kind::Text => column::of_kind(Kind::Text, x),
+    }
+}
+
 // 4, 10 and 5 for a value as so many rows more.
 fn why_row(kind: Kind, x: &[u8], rows: usize, more: usize, room: usize) -> Why
     requires { ⌜ rows ≤ room ⌝ }
-    ensures { λ r. ⌜ r ≡ whyRow kind (now (x .entry)) rows more room Why.Accepted ⌝ }
+    ensures { λ r. ⌜ r ≡ whyRows kind (now (x .entry)) rows more room Why.Accepted ⌝ }
 {
     if bounds::BYTE_LIMIT < x.len() {
         return Why::Refused(Refusal::TooLong);
     }
-    if !column::of_kind(kind, x) {
+    if !of_kind(kind, x) {
         return Why::Refused(Refusal::NotUtf8);
     }
     if room - rows < more {
@@ -46,7 +58,7 @@ fn why_row(kind: Kind, x: &[u8], rows: usize, more: usize, room: usize) -> Why
 // 2, 4, 10 and 5; no row is accepted whatever the value.
 pub fn why_first(s: State, rows: usize, blocks: usize, bytes: usize, x: &[u8], n: usize) -> Why
     requires { ⌜ blocks ≤ blockLimit ⌝ }
-    ensures { λ r. ⌜ r ≡ refuse Refusal.Fit (not (fitsRooms s rows blocks bytes)) (pick (eqb n 0) Why.Accepted (whyRow (s .kind) (now (x .entry))
+    ensures { λ r. ⌜ r ≡ refuse Refusal.Fit (not (fitsRooms s rows blocks bytes)) (pick (eqb n 0) Why.Accepted (whyRows (s .kind) (now (x .entry))
         (s .rows) n rows Why.Accepted)) ⌝ }
 {
     if !builder::state_fits(s, rows, blocks, bytes) {
@@ -173,6 +185,16 @@ pub fn stored(s: State, n: usize) -> State
     t.rows = s.rows + 1;
     t.fill = s.fill + n;
     t
+}
+
+// The view of a row written as two words.
+fn put_words(views: &mut [u8], row: usize, lo: u64, hi: u64)
+    requires { ⌜ 16 * row + 16 ≤ length (now views) ⌝ }
+    ensures { λ _. ⌜ now (views .exit) ≡ putWord (putWord (now (views .entry)) (16 * row) lo 8) (16 * row + 8) hi 8 ⌝ }
+{
+    let o = views::VIEW_SIZE * row;
+    words::put64(views, o, lo);
+    words::put64(views, o + 8, hi);
 }
 
 // The view of one row copied to another row.
@@ -438,14 +460,60 @@ fn add_one(
     add_long(s, views, bytes, starts, lens, nulls, places, x)
 }
 
+// Whether a value is short and stands in a slice that goes on for twelve bytes from where it begins.
+fn is_short_in(n: usize, left: usize) -> bool
+    ensures { λ r. ⌜ r ≡ leb n shortMost && leb shortMost left ⌝ }
+{
+    if views::SHORT_MOST < n {
+        return false;
+    }
+    views::SHORT_MOST <= left
+}
+
+// The bytes of a slice from `a` to `e` are added once, where a row has room: what a batch over one slice calls for each.
+pub fn add_part(
+    s: State,
+    views: &mut [u8],
+    bytes: &mut [u8],
+    starts: &mut [usize],
+    lens: &mut [usize],
+    nulls: &mut [u8],
+    places: &mut [u32],
+    all: &[u8],
+    a: usize,
+    e: usize,
+) -> Answer
+    requires { ⌜ Judged (held s (now views) (now bytes) (now starts) (now lens) (now nulls) (now places)) (take (e - a) (drop a (now all)))
+        × (a ≤ e) × (e ≤ length (now all)) ⌝ }
+    ensures { λ r. ⌜ Does (λ b. whyStore b (take (e - a) (drop a (now (all .entry))))) (putValue (take (e - a) (drop a (now (all .entry))))) s
+        (now (views .entry)) (now (bytes .entry)) (now (starts .entry)) (now (lens .entry)) (now (nulls .entry)) (now (places .entry))
+        r (now (views .exit)) (now (bytes .exit)) (now (starts .exit)) (now (lens .exit)) (now (nulls .exit)) (now (places .exit)) ⌝ }
+{
+    let rows = s.rows;
+    let n = e - a;
+    if is_short_in(n, all.len() - a) {
+        views::short_view_in(views, views::VIEW_SIZE * rows, all, a, n);
+        null_bits::put_bit(nulls, rows, true);
+        let t = builder::row_more(s, true);
+        return Answer {
+            why: Why::Accepted,
+            state: t,
+        };
+    }
+    add_one(s, views, bytes, starts, lens, nulls, places, &all[a..e])
+}
+
 // The view of row `from` copied to each of the n rows from `to` on.
 pub fn copy_rows(views: &mut [u8], from: usize, to: usize, n: usize)
     requires { ⌜ (from < to) × (16 * (to + n) ≤ length (now views)) ⌝ }
     ensures { λ _. ⌜ now (views .exit) ≡ putCopies (now (views .entry)) to (viewAt (now (views .entry)) from) n ⌝ }
 {
+    let p = views::VIEW_SIZE * from;
+    let lo = words::le64(&views[..], p);
+    let hi = words::le64(&views[..], p + 8);
     let mut k = 0;
     while k < n {
-        copy_view(views, from, to + k);
+        put_words(views, to + k, lo, hi);
         k += 1;
     }
 }
@@ -511,6 +579,36 @@ fn value_call(
     }
 }
 
+// A value is added: the work. It has no part in the call above, so that nothing is tested for copies that aren't made.
+fn one_call(
+    s: State,
+    views: &mut [u8],
+    bytes: &mut [u8],
+    starts: &mut [usize],
+    lens: &mut [usize],
+    nulls: &mut [u8],
+    places: &mut [u32],
+    x: &[u8],
+) -> Answer
+    ensures { λ r. ⌜ Does (λ b. whyValues 1 b (now (x .entry))) (putValues 1 (now (x .entry))) s
+        (now (views .entry)) (now (bytes .entry)) (now (starts .entry)) (now (lens .entry)) (now (nulls .entry)) (now (places .entry))
+        r (now (views .exit)) (now (bytes .exit)) (now (starts .exit)) (now (lens .exit)) (now (nulls .exit)) (now (places .exit)) ⌝ }
+{
+    let merging = s.merging;
+    let w = why_first(
+        s,
+        builder::rows_room(merging, views.len(), nulls.len(), places.len()),
+        builder::blocks_room(starts.len(), lens.len()),
+        builder::bytes_room(bytes.len()),
+        x,
+        1,
+    );
+    if !bounds::is_accepted(w) {
+        return Answer { why: w, state: s };
+    }
+    add_one(s, views, bytes, starts, lens, nulls, places, x)
+}
+
 // A value is added.
 pub fn append_value(
     s: State,
@@ -526,7 +624,7 @@ pub fn append_value(
         (now (views .entry)) (now (bytes .entry)) (now (starts .entry)) (now (lens .entry)) (now (nulls .entry)) (now (places .entry))
         r (now (views .exit)) (now (bytes .exit)) (now (starts .exit)) (now (lens .exit)) (now (nulls .exit)) (now (places .exit)) ⌝ }
 {
-    value_call(
+    one_call(
         builder::anew(s),
         views,
         bytes,
@@ -535,7 +633,6 @@ pub fn append_value(
         nulls,
         places,
         x,
-        1,
     )
 }
 

@@ -1,14 +1,18 @@
 -- A view's two words: the bytes of a word read are those read, with zeros past the end, and two words stored are the view pasted. Assumes nothing.
 use mathlib.Core.Path.{_≡_, refl, sym, ap, _∙_}
 use mathlib.Core.List.{List, [], _∷_, _++_, append-assoc}
-use Prim.Native.Nat.{ℕ, zero, suc, _+_, _-_, _*_, _/_, _%_, _^_, _≤_, _<_}
-use native.Mathlib.Nat.{add-zero, zero-add, suc-add, add-assoc, mul-comm, mul-assoc, one-mul, pow-suc}
+use mathlib.Core.Bool.{Bool, true, false}
+use Prim.Native.Nat.{ℕ, zero, suc, _+_, _-_, _*_, _/_, _%_, _^_, min, _≤_, _<_}
+use native.Mathlib.Nat.{add-zero, zero-add, suc-add, add-assoc, add-comm, mul-comm, mul-assoc, one-mul, pow-suc}
 use native.Mathlib.Numerals.{one-add}
 use native.Mathlib.Omega.{arith}
+use borrow.Author.Tests.{leb-true, leb-false}
+use lib.Dec.{leb}
+use lib.Pow.{high}
 use lib.ListN.{length, getD, take, drop, length-append, List·getD-eq-default}
 use lib.Seq.{drop-nil, paste, length-paste, take-paste, drop-paste, drop-drop, getD-drop, take-all}
 use Rattle.words.specs.Words.{Bytes, wordAt, putWord, enc, pad}
-use Rattle.words.specs.WordLaws.{le4, word-one, word-split, word-past, word-tail}
+use Rattle.words.specs.WordLaws.{le4, word-lt, word-one, word-split, word-past, word-tail}
 use Rattle.words.specs.ListLaws.{length-enc, put-enc}
 use Rattle.views.specs.View.{shortView, longView, zeroView}
 
@@ -102,12 +106,39 @@ few-is v x e h = omega (arith, le4 v 0, List·getD-eq-default v 0 {n = 3} (omega
 pub rest-none : (v : List ℕ) → length v < 4 → 0 ≡ wordAt v 4 8
 rest-none v h = sym (word-past v 4 8 (omega arith))
 
-pub rest-some : (v : List ℕ) → Bytes v → 4 ≤ length v → length v ≤ 8 → wordAt v (length v - 4) 4 / 2 ^ (8 * (8 - length v)) ≡ wordAt v 4 8
-rest-some v hb h k = word-tail v 4 hb h (omega arith) (omega arith) ∙ sym (word-split v 4 4 4 ∙ rw (word-past v 8 4 (omega arith)) (omega arith))
+-- bytes 4 to 4 + k, from the word that ends there
+middle : (v : List ℕ) (k : ℕ) → Bytes v → k ≤ 4 → wordAt v k 4 / 2 ^ (8 * (4 - k)) ≡ wordAt v 4 k
+middle v k hb h =
+    let all : 4 - k + k ≡ 4 = omega arith in
+    let at : k + (4 - k) ≡ 4 = omega arith in
+    let cut : wordAt v k 4 ≡ wordAt v k (4 - k) + 2 ^ (8 * (4 - k)) * wordAt v 4 k = rw (all, at) at (word-split v k (4 - k) k) in
+    rw (cut, mul-comm (2 ^ (8 * (4 - k))) (wordAt v 4 k), add-comm (wordAt v k (4 - k)) (wordAt v 4 k * 2 ^ (8 * (4 - k))))
+    (high (wordAt v 4 k) (8 * (4 - k)) (word-lt v k (4 - k) hb))
 
-pub rest-more : (v : List ℕ) → Bytes v → 8 ≤ length v → length v ≤ 12
-    → wordAt v 4 4 + 4294967296 * (wordAt v (length v - 4) 4 / 2 ^ (8 * (12 - length v))) ≡ wordAt v 4 8
-rest-more v hb h k = rw (word-tail v 8 hb (omega arith) h (omega arith)) (sym (word-split v 4 4 4))
+module _ (v : List ℕ) (k : ℕ) (hb : Bytes v) (h : 4 ≤ length v) (most : length v ≤ 12) (e : k ≡ min (length v - 4) 4) where
+  last : wordAt v (length v - 4) 4 / 2 ^ (8 * (8 + k - length v)) ≡ wordAt v (4 + k) 4
+  last =
+      let s : 4 + k + 4 - length v ≡ 8 + k - length v = omega arith in
+      rw s at (word-tail v (4 + k) hb h (omega arith) (omega arith))
+
+  joined : wordAt v 4 k + 4294967296 * wordAt v (4 + k) 4 ≡ wordAt v 4 8
+  joined = by (leb 8 (length v)) refl
+    where
+      zeros : (x p : ℕ) → x + 4294967296 * 0 ≡ x + p * 0
+      zeros x p = omega arith
+
+      by : (t : Bool) → leb 8 (length v) ≡ t → wordAt v 4 k + 4294967296 * wordAt v (4 + k) 4 ≡ wordAt v 4 8
+      by true q =
+          let four : k ≡ 4 = omega (arith, leb-true 8 (length v) q) in
+          rw four (sym (word-split v 4 4 4))
+      by false q =
+          let n : length v ≤ 4 + k = omega (arith, leb-false 8 (length v) q) in
+          let w : k + (8 - k) ≡ 8 = omega (arith, leb-false 8 (length v) q) in
+          let whole : wordAt v 4 8 ≡ wordAt v 4 k + 2 ^ (8 * k) * wordAt v (4 + k) (8 - k) = rw w at (word-split v 4 k (8 - k)) in
+          rw (whole, word-past v (4 + k) 4 n, word-past v (4 + k) (8 - k) n) (zeros (wordAt v 4 k) (2 ^ (8 * k)))
+
+  pub rest-is : wordAt v k 4 / 2 ^ (8 * (4 - k)) + 4294967296 * (wordAt v (length v - 4) 4 / 2 ^ (8 * (8 + k - length v))) ≡ wordAt v 4 8
+  rest-is = rw (middle v k hb (omega arith), last) joined
 
 pub gone : (v : List ℕ) (k : ℕ) → length v ≤ k → getD v k 0 ≡ 0
 gone v k h = List·getD-eq-default v 0 h

@@ -1,7 +1,7 @@
 // View records: sixteen bytes a row, their fields read as words and their bytes written as words.
 ghost use mathlib.Core.Path.{_≡_};
-ghost use Prim.Native.Nat.{_+_, _*_, _^_, _≤_, _<_};
-ghost use lib.ListN.{length};
+ghost use Prim.Native.Nat.{_+_, _-_, _*_, _%_, _^_, min, _≤_, _<_};
+ghost use lib.ListN.{length, take, drop};
 ghost use lib.Seq.{paste};
 ghost use Rattle.words.specs.Words.{wordAt};
 ghost use Rattle.views.specs.View.{viewSize, shortMost, viewAt, lengthOf, blockOf, offsetOf, shortView, longView, makeView, zeroView};
@@ -62,7 +62,7 @@ fn few(v: &[u8]) -> u64
     words::wide(v[0]) + 256 * words::wide(v[1]) + 65536 * words::wide(v[2])
 }
 
-// The two words of a short view.
+// The two words of a short view. From four bytes on no branch asks how many there are: the words read end where the value ends.
 fn words_of(v: &[u8]) -> Pair
     requires { ⌜ length (now v) ≤ shortMost ⌝ }
     ensures { λ r. ⌜ (r .lo ≡ length (now (v .entry)) + 4294967296 * wordAt (now (v .entry)) 0 4) × (r .hi ≡ wordAt (now (v .entry)) 4 8) ⌝ }
@@ -75,18 +75,13 @@ fn words_of(v: &[u8]) -> Pair
             hi: 0,
         };
     }
+    let k = basis::least(n - 4, 4);
     let f = words::le32(v, 0);
-    let t = words::le32(v, n - 4);
-    if n < 8 {
-        return Pair {
-            lo: n as u64 + 4294967296 * f,
-            hi: t >> (8 * (8 - n) as u64),
-        };
-    }
-    let m = words::le32(v, 4);
+    let m = words::le32(v, k) >> ((8 * (4 - k)) as u64);
+    let t = words::le32(v, n - 4) >> ((8 * (8 + k - n)) as u64);
     Pair {
         lo: n as u64 + 4294967296 * f,
-        hi: m + 4294967296 * (t >> (8 * (12 - n) as u64)),
+        hi: m + 4294967296 * t,
     }
 }
 
@@ -100,6 +95,38 @@ pub fn short_view(b: &mut [u8], o: usize, v: &[u8])
     let hi = p.hi;
     words::put64(b, o, lo);
     words::put64(b, o + 8, hi);
+}
+
+// The first n bytes of a number of four.
+fn front(f: u64, n: usize) -> u64
+    requires { ⌜ f < 2 ^ 32 ⌝ }
+    ensures { λ r. ⌜ (r ≡ f % 2 ^ (8 * min n 4)) × (r < 2 ^ 32) ⌝ }
+{
+    let bits = 8 * basis::least(n, 4);
+    f % (1u64 << (bits as u64))
+}
+
+// The bytes of a number of eight that a value of n bytes has behind its first four.
+fn behind(m: u64, n: usize) -> u64
+    requires { ⌜ n ≤ shortMost ⌝ }
+    ensures { λ r. ⌜ r ≡ m % 2 ^ (8 * (n - 4)) ⌝ }
+{
+    if n <= 4 {
+        return 0;
+    }
+    let bits = (8 * (SHORT_MOST - n)) as u64;
+    (m << bits) >> bits
+}
+
+// The same for the n bytes from `a` on of a slice that goes on for twelve: no branch asks how many they are.
+pub fn short_view_in(b: &mut [u8], o: usize, all: &[u8], a: usize, n: usize)
+    requires { ⌜ (o + viewSize ≤ length (now b)) × (n ≤ shortMost) × (a + shortMost ≤ length (now all)) ⌝ }
+    ensures { λ _. ⌜ now (b .exit) ≡ paste (now (b .entry)) o (shortView (take n (drop a (now (all .entry))))) viewSize ⌝ }
+{
+    let f = front(words::le32(all, a), n);
+    let m = behind(words::le64(all, a + 4), n);
+    words::put64(b, o, n as u64 + 4294967296 * f);
+    words::put64(b, o + 8, m);
 }
 
 // Writes the view of a null row into the sixteen bytes from `o` on.

@@ -19,40 +19,40 @@ use Rattle.shelf.specs.declared.Item.{Item}
 use Rattle.shelf.specs.declared.Item.the-variants as item
 use Rattle.shelf.specs.Items.{itemCount, itemAt}
 use Rattle.shelf.specs.ItemLaws.{count-few, count-many, item-few, item-first, item-gap, item-last}
-use Rattle.whole.specs.Answer.{Row, row, rowOf, rowLines, body, nullsIn, bytesIn, blockBytesIn, blocksIn, listed, answerLines, answer, isValid, rowAt, rowsFrom, rowsOf, numberOf, closingOf, listedColumn, inputMost}
-use Rattle.shelf.specs.Lines.{lines, firstBad}
+use Rattle.whole.specs.Answer.{ShelfRow, row, rowSaid, rowLines, body, nullsIn, validBytes, blockBytesIn, blocksUsed, listed, answerLines, shelfAnswer, bitValid, shelfRowAt, rowsFrom, shelfRows, numberIs, closingOf, listedColumn, inputMost}
+use Rattle.shelf.specs.Lines.{lines, firstBadLine}
 use Rattle.column.specs.declared.Column.{Column}
 use Rattle.column.specs.Lent.{Lent, fits}
-use Rattle.column.specs.Meaning.{shownAt, validAt}
+use Rattle.column.specs.Meaning.{shownAt, rowValid}
 use Rattle.reading.specs.Reading.{whyRun, whyRow, whyValue, bitWhen, bitOf, valueAt, nullRun, totalBytesLen, totalBufferBytesUsed}
 
 -- ---- the rows and the gap, item by item
 
-abbrev pub nothing : Row
-nothing = row false []
+abbrev pub noRow : ShelfRow
+noRow = row false []
 
-abbrev pub itemLine : List Row → Item → List ℕ
-itemLine rs (item.Row r) = rowLine (getD rs r nothing .valid) (getD rs r nothing .value)
+abbrev pub itemLine : List ShelfRow → Item → List ℕ
+itemLine rs (item.Row r) = rowLine (getD rs r noRow .valid) (getD rs r noRow .value)
 itemLine rs (item.Gap n) = gapLine n
 
 -- n items from item k on
-unfoldable pub itemLines : List Row → ℕ → ℕ → List ℕ
+unfoldable pub itemLines : List ShelfRow → ℕ → ℕ → List ℕ
 itemLines rs k zero = []
 itemLines rs k (suc n) = itemLine rs (itemAt (length rs) k) ++ itemLines rs (suc k) n
 
 -- n rows from row r on
-unfoldable run : List Row → ℕ → ℕ → List ℕ
+unfoldable run : List ShelfRow → ℕ → ℕ → List ℕ
 run rs r zero = []
 run rs r (suc n) = itemLine rs (item.Row r) ++ run rs (suc r) n
 
-run-is : (rs : List Row) (r n : ℕ) → r + n ≤ length rs → run rs r n ≡ rowLines (take n (drop r rs))
+run-is : (rs : List ShelfRow) (r n : ℕ) → r + n ≤ length rs → run rs r n ≡ rowLines (take n (drop r rs))
 unfolding run rowLines
 run-is rs r zero h = refl
 run-is rs r (suc n) h =
-    rw (drop-cons rs r nothing (omega arith))
+    rw (drop-cons rs r noRow (omega arith))
     (ap (λ (z : List ℕ). itemLine rs (item.Row r) ++ z) (run-is rs (suc r) n (omega arith)))
 
-module _ (rs : List Row) where
+module _ (rs : List ShelfRow) where
   few : (k n : ℕ) → length rs ≤ 20 → itemLines rs k n ≡ run rs k n
   unfolding itemLines run
   few k zero h = refl
@@ -107,65 +107,66 @@ module _ (l : Lent) (c : Column) where
   rows-length r zero = refl
   rows-length r (suc n) = ap suc (rows-length (suc r) n)
 
-  pub length-rows : length (rowsOf l c) ≡ c .rows
+  pub length-rows : length (shelfRows l c) ≡ c .rows
   length-rows = rows-length 0 (c .rows)
 
-  rows-at : (r n k : ℕ) → k < n → getD (rowsFrom l c r n) k nothing ≡ rowAt l c (r + k)
+  rows-at : (r n k : ℕ) → k < n → getD (rowsFrom l c r n) k noRow ≡ shelfRowAt l c (r + k)
   unfolding rowsFrom
   rows-at r zero k h = absurd (omega arith)
   rows-at r (suc n) zero h = rw (add-zero r)
-  rows-at r (suc n) (suc k) h = let e : suc r + k ≡ r + suc k = omega arith in rows-at (suc r) n k (omega arith) ∙ ap (rowAt l c) e
+  rows-at r (suc n) (suc k) h = let e : suc r + k ≡ r + suc k = omega arith in rows-at (suc r) n k (omega arith) ∙ ap (shelfRowAt l c) e
 
   -- past the rows the bit and the value are refused
-  no-row : (r : ℕ) → c .rows ≤ r → nothing ≡ rowAt l c r
+  no-row : (r : ℕ) → c .rows ≤ r → noRow ≡ shelfRowAt l c r
   unfolding bitOf whyRow whyRun valueAt whyValue refuse
   no-row r h = rw (lt-ltb (c .rows) (r + 1) (omega arith), le-leb (c .rows) r h) (go (fits l c))
     where
-      go : (t : Bool) → nothing ≡ row (isValid (bitWhen (refuse Fit (not t) (Refused refusal.Row)) (validAt l c r)))
+      go : (t : Bool) → noRow ≡ row (bitValid (bitWhen (refuse Fit (not t) (Refused refusal.Row)) (rowValid l c r)))
           (ifAccepted (refuse Fit (not t) (Refused refusal.Row)) (shownAt l c r) [])
       go true = refl
       go false = refl
 
   -- row r of a column, whether it has one or not
-  pub row-at : (r : ℕ) → getD (rowsOf l c) r nothing ≡ rowAt l c r
+  pub row-at : (r : ℕ) → getD (shelfRows l c) r noRow ≡ shelfRowAt l c r
   row-at r = go (ltb r (c .rows)) refl
     where
-      go : (t : Bool) → ltb r (c .rows) ≡ t → getD (rowsOf l c) r nothing ≡ rowAt l c r
-      go true e = rows-at 0 (c .rows) r (ltb-true r (c .rows) e) ∙ ap (rowAt l c) (zero-add r)
+      go : (t : Bool) → ltb r (c .rows) ≡ t → getD (shelfRows l c) r noRow ≡ shelfRowAt l c r
+      go true e = rows-at 0 (c .rows) r (ltb-true r (c .rows) e) ∙ ap (shelfRowAt l c) (zero-add r)
       go false e =
           let h : c .rows ≤ r = ltb-false r (c .rows) e in
-          let g : length (rowsOf l c) ≤ r = omega (arith, length-rows) in
-          List·getD-eq-default (rowsOf l c) nothing g ∙ no-row r h
+          let g : length (shelfRows l c) ≤ r = omega (arith, length-rows) in
+          List·getD-eq-default (shelfRows l c) noRow g ∙ no-row r h
 
   -- the opening, the items in order, and the closing lines are the listing
-  pub column-whole : opening ++ (itemLines (rowsOf l c) 0 (itemCount (c .rows)) ++ closingOf l c) ≡ listedColumn l c
+  pub column-whole : opening ++ (itemLines (shelfRows l c) 0 (itemCount (c .rows)) ++ closingOf l c) ≡ listedColumn l c
   unfolding listedColumn
   column-whole =
-      let e : itemLines (rowsOf l c) 0 (itemCount (c .rows)) ≡ body (rowsOf l c) = ap (λ (n : ℕ). itemLines (rowsOf l c) 0 (itemCount n))
-      (sym length-rows) ∙ items-whole (rowsOf l c) in
+      let e : itemLines (shelfRows l c) 0 (itemCount (c .rows)) ≡ body (shelfRows l c) = ap (λ (n : ℕ). itemLines (shelfRows l c) 0 (itemCount n))
+      (sym length-rows) ∙ items-whole (shelfRows l c) in
       ap (λ (z : List ℕ). opening ++ (z ++ closingOf l c)) e
 
 -- A column that shows rows, and of which the calls tell their numbers. `answering` has it of the column of every accepted input.
-pub record Shows (l : Lent) (c : Column) (rs : List Row) : Type 0 where
-  pub rows : rowsOf l c ≡ rs
-  pub nulls : numberOf (nullRun l c 0 (c .rows)) ≡ nullsIn rs
-  pub bytes : numberOf (totalBytesLen l c) ≡ bytesIn rs
-  pub long : numberOf (totalBufferBytesUsed l c) ≡ blockBytesIn rs
-  pub blocks : c .blocks ≡ blocksIn rs
+pub record ShowsRows (l : Lent) (c : Column) (rs : List ShelfRow) : Type 0 where
+  pub rows : shelfRows l c ≡ rs
+  pub nulls : numberIs (nullRun l c 0 (c .rows)) ≡ nullsIn rs
+  pub bytes : numberIs (totalBytesLen l c) ≡ validBytes rs
+  pub long : numberIs (totalBufferBytesUsed l c) ≡ blockBytesIn rs
+  pub blocks : c .blocks ≡ blocksUsed rs
 
 -- a column that shows the lines' rows is listed as the answer to them
-pub answered : (l : Lent) (c : Column) (s : List ℕ) → length s ≤ inputMost → firstBad 0 (lines s) ≡ 0 → Shows l c (map rowOf (lines s)) → listedColumn l c
-    ≡ answer s
-unfolding answer answerLines listed listedColumn
+pub answered : (l : Lent) (c : Column) (s : List ℕ) → length s ≤ inputMost → firstBadLine 0 (lines s) ≡ 0 → ShowsRows l c (map rowSaid (lines s))
+    → listedColumn l c
+    ≡ shelfAnswer s
+unfolding shelfAnswer answerLines listed listedColumn
 answered l c s h g w =
-    let n : c .rows ≡ length (map rowOf (lines s)) = sym (length-rows l c) ∙ ap length (w .rows) in
+    let n : c .rows ≡ length (map rowSaid (lines s)) = sym (length-rows l c) ∙ ap length (w .rows) in
     rw (le-ltb inputMost (length s) h, g) (λ i. opening ++ (body (w .rows i) ++ closing (n i) (w .nulls i) (w .bytes i) (w .long i) (w .blocks i)))
 
 -- the two refusals
-pub answered-size : (s : List ℕ) → inputMost < length s → refusedLine 0 ≡ answer s
-unfolding answer
+pub answered-size : (s : List ℕ) → inputMost < length s → refusedLine 0 ≡ shelfAnswer s
+unfolding shelfAnswer
 answered-size s h = rw (lt-ltb inputMost (length s) h)
 
-pub answered-bad : (s : List ℕ) (n : ℕ) → length s ≤ inputMost → n ≡ firstBad 0 (lines s) → (n ≡ 0 → ⊥) → refusedLine n ≡ answer s
-unfolding answer answerLines
+pub answered-bad : (s : List ℕ) (n : ℕ) → length s ≤ inputMost → n ≡ firstBadLine 0 (lines s) → (n ≡ 0 → ⊥) → refusedLine n ≡ shelfAnswer s
+unfolding shelfAnswer answerLines
 answered-bad s n h e g = rw (le-ltb inputMost (length s) h, ← e, ne-eqb n 0 g)

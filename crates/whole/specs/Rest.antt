@@ -16,12 +16,12 @@ use Rattle.shelf.specs.Items.{itemCount, itemAt}
 use Rattle.whole.specs.declared.Place.{Place}
 use Rattle.whole.specs.declared.Place.the-variants.{Refused, Opening, Line, Part, End}
 use Rattle.whole.specs.declared.Piece.{Piece}
-use Rattle.whole.specs.Answer.{rowsOf, closingOf, listedColumn}
+use Rattle.whole.specs.Answer.{shelfRows, closingOf, listedColumn}
 use Rattle.whole.specs.Pieces.{itemLines}
 
 -- line k of the listing and those after it, then the closing lines
 unfoldable pub linesFrom : Lent → Column → ℕ → List ℕ
-linesFrom l c k = itemLines (rowsOf l c) k (itemCount (c .rows) - k) ++ closingOf l c
+linesFrom l c k = itemLines (shelfRows l c) k (itemCount (c .rows) - k) ++ closingOf l c
 
 -- the value on a line
 abbrev pub itemValue : Lent → Column → Item → List ℕ
@@ -58,7 +58,7 @@ abbrev pub piece : Place → ℕ → Piece
 piece p n = record { place = p; written = n }
 
 -- a piece of a text stands at the start of a buffer: with what is left after it, it is the text; and it isn't empty, unless it is the last
-pub record Wrote (l : Lent) (c : Column) (all out : List ℕ) (r : Piece) : Type 0 where
+pub record WrotePiece (l : Lent) (c : Column) (all out : List ℕ) (r : Piece) : Type 0 where
   pub text : take (r .written) out ++ restOf l c (r .place) ≡ all
   pub low : r .written ≤ length out
   pub counts : r .written ≡ length (take (r .written) out)

@@ -4,9 +4,9 @@ ghost use Prim.Native.Nat.{_<_};
 ghost use Rattle.column.specs.Lent.{lent};
 ghost use Rattle.shelf.specs.Items.{itemCount, itemAt};
 ghost use Rattle.shelf.specs.declared.Item.the-variants as item;
-ghost use Rattle.listing.specs.Put.{Holds};
-ghost use Rattle.whole.specs.Answer.{numberOf, closingOf};
-ghost use Rattle.whole.specs.Rest.{linesFrom, partsFrom, restOf, itemValue, Wrote};
+ghost use Rattle.listing.specs.Put.{HoldsText};
+ghost use Rattle.whole.specs.Answer.{numberIs, closingOf};
+ghost use Rattle.whole.specs.Rest.{linesFrom, partsFrom, restOf, itemValue, WrotePiece};
 ghost use Rattle.whole.specs.Rest as spec;
 use column::Column;
 use reading::Bit;
@@ -45,7 +45,7 @@ pub fn ended(p: Place) -> bool
 
 // A number of a column, 0 where it is refused.
 fn number(n: Number) -> usize
-    ensures { λ r. ⌜ r ≡ numberOf n ⌝ }
+    ensures { λ r. ⌜ r ≡ numberIs n ⌝ }
 {
     match n {
         Number::Is(k) => k,
@@ -62,7 +62,7 @@ fn closing_piece(
     c: Column,
     out: &mut [u8; ROOM],
 ) -> usize
-    ensures { λ r. ⌜ Holds (now (out .exit)) r (closingOf (lent (now (views .entry)) (now (bytes .entry)) (now (starts .entry)) (now (lens .entry))
+    ensures { λ r. ⌜ HoldsText (now (out .exit)) r (closingOf (lent (now (views .entry)) (now (bytes .entry)) (now (starts .entry)) (now (lens .entry))
         (now (nulls .entry))) c) ⌝ }
 {
     let rows = c.rows;
@@ -90,7 +90,7 @@ fn row_piece(
     out: &mut [u8; ROOM],
 ) -> Piece
     requires { ⌜ (k < itemCount (c .rows)) × (item.Row row ≡ itemAt (c .rows) k) ⌝ }
-    ensures { λ r. ⌜ Wrote (lent (now (views .entry)) (now (bytes .entry)) (now (starts .entry)) (now (lens .entry)) (now (nulls .entry))) c
+    ensures { λ r. ⌜ WrotePiece (lent (now (views .entry)) (now (bytes .entry)) (now (starts .entry)) (now (lens .entry)) (now (nulls .entry))) c
         (linesFrom (lent (now (views .entry)) (now (bytes .entry)) (now (starts .entry)) (now (lens .entry)) (now (nulls .entry))) c k) (now (out .exit)) r ⌝ }
 {
     let bit = reading::null_bit(views, bytes, starts, lens, nulls, c, row);
@@ -121,7 +121,7 @@ fn line_piece(
     k: usize,
     out: &mut [u8; ROOM],
 ) -> Piece
-    ensures { λ r. ⌜ Wrote (lent (now (views .entry)) (now (bytes .entry)) (now (starts .entry)) (now (lens .entry)) (now (nulls .entry))) c
+    ensures { λ r. ⌜ WrotePiece (lent (now (views .entry)) (now (bytes .entry)) (now (starts .entry)) (now (lens .entry)) (now (nulls .entry))) c
         (linesFrom (lent (now (views .entry)) (now (bytes .entry)) (now (starts .entry)) (now (lens .entry)) (now (nulls .entry))) c k) (now (out .exit)) r ⌝ }
 {
     let rows = c.rows;
@@ -170,7 +170,7 @@ fn part_piece<'a>(
     at: usize,
     out: &mut [u8; ROOM],
 ) -> Piece
-    ensures { λ r. ⌜ Wrote (lent (now (views .entry)) (now (bytes .entry)) (now (starts .entry)) (now (lens .entry)) (now (nulls .entry))) c
+    ensures { λ r. ⌜ WrotePiece (lent (now (views .entry)) (now (bytes .entry)) (now (starts .entry)) (now (lens .entry)) (now (nulls .entry))) c
         (partsFrom (lent (now (views .entry)) (now (bytes .entry)) (now (starts .entry)) (now (lens .entry)) (now (nulls .entry))) c k at)
         (now (out .exit)) r ⌝ }
 {
@@ -214,7 +214,7 @@ pub fn next_piece<'a>(
     p: Place,
     out: &mut [u8; ROOM],
 ) -> Piece
-    ensures { λ r. ⌜ Wrote (lent (now (views .entry)) (now (bytes .entry)) (now (starts .entry)) (now (lens .entry)) (now (nulls .entry))) c
+    ensures { λ r. ⌜ WrotePiece (lent (now (views .entry)) (now (bytes .entry)) (now (starts .entry)) (now (lens .entry)) (now (nulls .entry))) c
         (restOf (lent (now (views .entry)) (now (bytes .entry)) (now (starts .entry)) (now (lens .entry)) (now (nulls .entry))) c p) (now (out .exit)) r ⌝ }
 {
     match p {

@@ -50,15 +50,6 @@ take-length-pad n [] h = refl
 take-length-pad zero (a ∷ x) h = absurd (not-suc-le-zero h)
 take-length-pad (suc n) (a ∷ x) h = ap (λ (r : List ℕ). a ∷ r) (take-length-pad n x (le-of-suc-le-suc h))
 
--- a padded list has the list's bytes, and 0 past them
-pub getD-pad : (n : ℕ) (x : List ℕ) (j : ℕ) → j < n → getD (pad n x) j 0 ≡ getD x j 0
-unfolding pad
-getD-pad zero x j h = absurd (omega arith)
-getD-pad (suc n) [] zero h = refl
-getD-pad (suc n) [] (suc j) h = getD-pad n [] j (omega arith)
-getD-pad (suc n) (a ∷ x) zero h = refl
-getD-pad (suc n) (a ∷ x) (suc j) h = getD-pad n x j (omega arith)
-
 -- the number at a place is that of the bytes there: a byte past the end counts 0
 pub word-dec : (l : List ℕ) (i n : ℕ) → wordAt l i n ≡ dec (take n (drop i l))
 unfolding wordAt dec

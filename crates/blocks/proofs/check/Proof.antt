@@ -47,7 +47,7 @@ use Rattle.column.proofs.Block as T
 use Rattle.column.proofs.Column as K
 use Rattle.column.proofs.Column.Laws as K′
 use Rattle.validity.specs.Check.{whyInvalid}
-use Rattle.blocks.specs.Places.{Counted, Found, Stopped}
+use Rattle.blocks.specs.Places.{PlacesCounted, PlaceFound, Stopped}
 use Rattle.blocks.specs.PlacesLaws.{stopped}
 use Rattle.blocks.proofs.AskLook.{column-val}
 use Rattle.tables.proofs.count as N
@@ -152,8 +152,8 @@ module _ {M : Type 1} (𝓤 : URA M) (H : Heap 𝓤) (A : Atoms 𝓤) (W : Given
         owned ! K.the-row (Is K.the-row) (LL.makes K.the-type K′.the-plain 𝓤 H A) c _ gc $ fjoin ! $ move ! (3 ∷ 0 ∷ []) $ fjoin ! $ move !
         (2 ∷ 0 ∷ []) $ fjoin ! $ move ! (1 ∷ 0 ∷ []) $ join ! $ frame ! $ done !
 
-    said₂ : (m : ℕ) → ent 𝓤 (ensured 𝓤 H A E.ended (E.clauses 𝓤 H A mem run) (κ, tt) a₂ tt m) (fact 𝓤 (Counted (now x) (now z) c n m))
-    said₂ m = exE 𝓤 _ (λ ws. snd∗ 𝓤 (sem 𝓤 H A (lasts E.ended (κ, tt) a₂ ws)) (fact 𝓤 (Counted (now x) (now z) c n m)))
+    said₂ : (m : ℕ) → ent 𝓤 (ensured 𝓤 H A E.ended (E.clauses 𝓤 H A mem run) (κ, tt) a₂ tt m) (fact 𝓤 (PlacesCounted (now x) (now z) c n m))
+    said₂ m = exE 𝓤 _ (λ ws. snd∗ 𝓤 (sem 𝓤 H A (lasts E.ended (κ, tt) a₂ ws)) (fact 𝓤 (PlacesCounted (now x) (now z) c n m)))
 
   -- where the check stops, of m places
   module _ (m : ℕ) where
@@ -170,8 +170,8 @@ module _ {M : Type 1} (𝓤 : URA M) (H : Heap 𝓤) (A : Atoms 𝓤) (W : Given
         owned ! K.the-row (Is K.the-row) (LL.makes K.the-type K′.the-plain 𝓤 H A) c _ gc $ fjoin ! $ move ! (1 ∷ 0 ∷ []) $ fjoin ! $ move !
         (1 ∷ 0 ∷ []) $ fjoin ! $ move ! (2 ∷ 0 ∷ []) $ fjoin ! $ move ! (1 ∷ 0 ∷ []) $ join ! $ frame ! $ done !
 
-    said₃ : (i : ℕ) → ent 𝓤 (ensured 𝓤 H A G.ended (G.clauses 𝓤 H A mem run) (κ, tt) a₃ tt i) (fact 𝓤 (Found (now x) (now y) (now t) c m i))
-    said₃ i = exE 𝓤 _ (λ ws. snd∗ 𝓤 (sem 𝓤 H A (lasts G.ended (κ, tt) a₃ ws)) (fact 𝓤 (Found (now x) (now y) (now t) c m i)))
+    said₃ : (i : ℕ) → ent 𝓤 (ensured 𝓤 H A G.ended (G.clauses 𝓤 H A mem run) (κ, tt) a₃ tt i) (fact 𝓤 (PlaceFound (now x) (now y) (now t) c m i))
+    said₃ i = exE 𝓤 _ (λ ws. snd∗ 𝓤 (sem 𝓤 H A (lasts G.ended (κ, tt) a₃ ws)) (fact 𝓤 (PlaceFound (now x) (now y) (now t) c m i)))
 
   -- the verdict at place i
   module _ (n i : ℕ) where
@@ -242,7 +242,7 @@ module _ {M : Type 1} (𝓤 : URA M) (H : Heap 𝓤) (A : Atoms 𝓤) (W : Given
         (and-then ! (load ! (from ! (stop !)) (look ! 5 refl)) (no-more !))))) (λ u′.
         use1 W (later (some (λ (m : ℕ). ((‵ (flft κ q) ⊛ ‵ ftrue) ⊛ ‵ (usize .own m (u′ ∷ []))) ⊛ raw (ensured 𝓤 H A E.ended (E.clauses 𝓤 H A mem run)
         (κ, tt) (a₂ n) tt m)))) (id⊢ 𝓤 _) $ await ! tt $ pick ! (λ m.
-        split ! $ move ! (1 ∷ []) $ use1 W (raw (fact 𝓤 (Counted (now x) (now z) c n m))) (said₂ n m) $ heard ! (Counted (now x) (now z) c n m)
+        split ! $ move ! (1 ∷ []) $ use1 W (raw (fact 𝓤 (PlacesCounted (now x) (now z) c n m))) (said₂ n m) $ heard ! (PlacesCounted (now x) (now z) c n m)
         (λ counted. split ! $ move ! (1 ∷ []) $
         peeks ! usize (Is usize) (shows 𝓤 H A usize) m (u′ ∷ []) (λ gm.
         land ! (from ! (stop !)) (init ! 4 refl (uint-lawful 𝓤 H A W w64 .typed m _ gm .0)) $ rewrite ! 4
@@ -253,7 +253,7 @@ module _ {M : Type 1} (𝓤 : URA M) (H : Heap 𝓤) (A : Atoms 𝓤) (W : Given
         (and-then ! (load ! (from ! (stop !)) (look ! 7 refl)) (and-then ! (load ! (from ! (stop !)) (look ! 3 refl)) (no-more !)))))) (λ u″.
         use1 W (later (some (λ (i : ℕ). ((‵ (flft κ q) ⊛ ‵ ftrue) ⊛ ‵ (usize .own i (u″ ∷ []))) ⊛ raw (ensured 𝓤 H A G.ended (G.clauses 𝓤 H A mem run)
         (κ, tt) (a₃ m) tt i)))) (id⊢ 𝓤 _) $ await ! tt $ pick ! (λ i.
-        split ! $ move ! (1 ∷ []) $ use1 W (raw (fact 𝓤 (Found (now x) (now y) (now t) c m i))) (said₃ m i) $ heard ! (Found (now x) (now y) (now t) c
+        split ! $ move ! (1 ∷ []) $ use1 W (raw (fact 𝓤 (PlaceFound (now x) (now y) (now t) c m i))) (said₃ m i) $ heard ! (PlaceFound (now x) (now y) (now t) c
         m i) (λ f. split ! $ move ! (1 ∷ []) $
         peeks ! usize (Is usize) (shows 𝓤 H A usize) i (u″ ∷ []) (λ gi.
         land ! (from ! (stop !)) (init ! 2 refl (uint-lawful 𝓤 H A W w64 .typed i _ gi .0)) $ rewrite ! 2

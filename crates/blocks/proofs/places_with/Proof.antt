@@ -5,7 +5,7 @@ use borrow.Author.Needs.{needs}
 use borrow.Author.Tests.{not-true, not-false}
 use Rattle.bounds.specs.Bounds.{block-limit-is}
 use Rattle.column.specs.FitLaws.{over-blocks}
-use Rattle.blocks.specs.PlacesLaws.{never}
+use Rattle.blocks.specs.PlacesLaws.{never-by}
 use Rattle.blocks.proofs.places_with.Statement.{statement}
 use Rattle.blocks.proofs.places_with.Tie as tie
 
@@ -15,13 +15,13 @@ fits-with-requires c κs = search needs
 returns : tie.Need-returns
 returns c = record {
   room = λ h. absurd (omega arith);
-  all = λ bytes table e fit. never (sym (not-true _ (c .if1 .taken)) ∙ c .before .fits-with .ensures .1 bytes table e ∙ fit);
+  all = λ bytes table e fit. never-by (sym (not-true _ (c .if1 .taken)) ∙ c .before .fits-with .ensures .1 bytes table e ∙ fit);
 }
 
 returns-2 : tie.Need-returns-2
 returns-2 c = record {
   room = λ h. absurd (omega arith);
-  all = λ bytes table e fit. never (over-blocks _ bytes _ table _ (omega (arith, block-limit-is)) ∙ fit);
+  all = λ bytes table e fit. never-by (over-blocks _ bytes _ table _ (omega (arith, block-limit-is)) ∙ fit);
 }
 
 add-result : tie.Need-add-result

@@ -47,7 +47,7 @@ use Rattle.column.specs.declared.Column.{Column}
 use Rattle.column.proofs.Block as T
 use Rattle.column.proofs.Column as K
 use Rattle.column.proofs.Column.Laws as K′
-use Rattle.blocks.specs.Places.{Answers, Found}
+use Rattle.blocks.specs.Places.{Answers, PlaceFound}
 use Rattle.blocks.specs.PlacesLaws.{Passed, passed-none, passed-more, found}
 use Rattle.blocks.proofs.AskLook.{column-val}
 use Rattle.blocks.proofs.holds as G
@@ -146,7 +146,7 @@ module _ {M : Type 1} (𝓤 : URA M) (H : Heap 𝓤) (A : Atoms 𝓤) (W : Given
     said₁ : (r : Bool) → ent 𝓤 (ensured 𝓤 H A G.ended (G.clauses 𝓤 H A mem run) (κ, tt) a₁ tt r) (fact 𝓤 (Answer r))
     said₁ r = exE 𝓤 _ (λ ws. snd∗ 𝓤 (sem 𝓤 H A (lasts G.ended (κ, tt) a₁ ws)) (fact 𝓤 (Answer r)))
 
-  exits : (i : ℕ) → i < 2 ^ 64 → Found (now x) (now y) (now t) c m i
+  exits : (i : ℕ) → i < 2 ^ 64 → PlaceFound (now x) (now y) (now t) c m i
       → ent 𝓤 (⋆ 𝓤 H A ((‵ (flft κ q) ⊛ ‵ ftrue) ∷ ‵ Tb ∷ ‵ (Own y) ∷ ‵ (Own x) ∷ ‵ Rest ∷ [])) (Post (vint w64 i))
   exits i gi e =
       qed W ((‵ (flft κ q) ⊛ ‵ ftrue) ∷ ‵ Tb ∷ ‵ (Own y) ∷ ‵ (Own x) ∷ ‵ Rest ∷ []) ∵

@@ -1,5 +1,5 @@
 -- `builder_exports::growth_of` meets its contract. Assumes nothing.
-use Rattle.builder_exports.specs.NumberLaws.{growth-zero, growth-other}
+use Rattle.builder_exports.proofs.NumberLaws.{growth-zero, growth-other}
 use Rattle.builder_exports.proofs.growth_of.Statement.{statement}
 use Rattle.builder_exports.proofs.growth_of.Tie as tie
 

@@ -1,5 +1,5 @@
 -- `builder_exports::merging_of` meets its contract. Assumes nothing.
-use Rattle.builder_exports.specs.NumberLaws.{merging-zero, merging-one, merging-other}
+use Rattle.builder_exports.proofs.NumberLaws.{merging-zero, merging-one, merging-other}
 use Rattle.builder_exports.proofs.merging_of.Statement.{statement}
 use Rattle.builder_exports.proofs.merging_of.Tie as tie
 

@@ -1,5 +1,5 @@
 -- `builder_exports::numbers_of` meets its contract. Assumes nothing.
-use Rattle.builder_exports.specs.NumberLaws.{numbers-are}
+use Rattle.builder_exports.proofs.NumberLaws.{numbers-are}
 use borrow.Author.Needs.{needs}
 use Rattle.builder_exports.proofs.numbers_of.Statement.{statement}
 use Rattle.builder_exports.proofs.numbers_of.Tie as tie

@@ -1,5 +1,5 @@
 -- `builder_exports::settings_of` meets its contract. Assumes nothing.
-use Rattle.builder_exports.specs.NumberLaws.{settings-is}
+use Rattle.builder_exports.proofs.NumberLaws.{settings-is}
 use borrow.Author.Needs.{needs}
 use Rattle.builder_exports.proofs.settings_of.Statement.{statement}
 use Rattle.builder_exports.proofs.settings_of.Tie as tie

@@ -1,5 +1,5 @@
 -- `builder_exports::sizes_of` meets its contract. Assumes nothing.
-use Rattle.builder_exports.specs.NumberLaws.{sizes-zero, sizes-other}
+use Rattle.builder_exports.proofs.NumberLaws.{sizes-zero, sizes-other}
 use Rattle.builder_exports.proofs.sizes_of.Statement.{statement}
 use Rattle.builder_exports.proofs.sizes_of.Tie as tie
 

@@ -1,5 +1,5 @@
 -- `builder_exports::state_of` meets its contract. Assumes nothing.
-use Rattle.builder_exports.specs.NumberLaws.{state-is}
+use Rattle.builder_exports.proofs.NumberLaws.{state-is}
 use borrow.Author.Needs.{needs}
 use Rattle.builder_exports.proofs.state_of.Statement.{statement}
 use Rattle.builder_exports.proofs.state_of.Tie as tie

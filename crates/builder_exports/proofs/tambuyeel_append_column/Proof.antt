@@ -1,7 +1,8 @@
 -- `builder_exports::tambuyeel_append_column` meets its contract. Assumes nothing.
-use Rattle.builder_exports.specs.declared.Told.{Told}
+use Rattle.numbers.specs.declared.Told.{Told}
+use Rattle.numbers.specs.Laws.{told-number}
 use mathlib.Core.Path.{ap, _∙_}
-use Rattle.builder_exports.specs.NumberLaws.{exported, told-left, told-number}
+use Rattle.builder_exports.proofs.NumberLaws.{exported, told-left}
 use borrow.Author.Needs.{needs}
 use Rattle.builder_exports.proofs.tambuyeel_append_column.Statement.{statement}
 use Rattle.builder_exports.proofs.tambuyeel_append_column.Tie as tie

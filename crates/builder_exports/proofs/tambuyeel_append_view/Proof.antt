@@ -1,5 +1,5 @@
 -- `builder_exports::tambuyeel_append_view` meets its contract. Assumes nothing.
-use Rattle.builder_exports.specs.NumberLaws.{exported}
+use Rattle.builder_exports.proofs.NumberLaws.{exported}
 use borrow.Author.Needs.{needs}
 use Rattle.builder_exports.proofs.tambuyeel_append_view.Statement.{statement}
 use Rattle.builder_exports.proofs.tambuyeel_append_view.Tie as tie

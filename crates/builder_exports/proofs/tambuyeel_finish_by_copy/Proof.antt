@@ -1,6 +1,6 @@
 -- `builder_exports::tambuyeel_finish_by_copy` meets its contract. Assumes nothing.
 use Rattle.builder.specs.Finish.{finishColumn}
-use Rattle.builder_exports.specs.NumberLaws.{exported, column-left}
+use Rattle.builder_exports.proofs.NumberLaws.{exported, column-left}
 use borrow.Author.Needs.{needs}
 use Rattle.builder_exports.proofs.tambuyeel_finish_by_copy.Statement.{statement}
 use Rattle.builder_exports.proofs.tambuyeel_finish_by_copy.Tie as tie

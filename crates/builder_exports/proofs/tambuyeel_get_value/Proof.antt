@@ -3,8 +3,8 @@ use Rattle.finishing.specs.GetLaws.{got}
 use Rattle.builder.specs.RoomLaws.{fits-gives, ready}
 use Rattle.bounds.specs.Refusals.{isAccepted}
 use mathlib.Core.Path.{sym, ap, _∙_}
-use Rattle.builder_exports.specs.Numbers.{placeOf}
-use Rattle.builder_exports.specs.NumberLaws.{got-not, got-there}
+use Rattle.numbers.specs.Numbers.{placeOf}
+use Rattle.builder_exports.proofs.NumberLaws.{got-not, got-there}
 use denote.Ref.{now}
 use borrow.Author.Needs.{needs}
 use Rattle.builder_exports.proofs.tambuyeel_get_value.Statement.{statement}

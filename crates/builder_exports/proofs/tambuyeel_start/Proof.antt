@@ -1,5 +1,5 @@
 -- `builder_exports::tambuyeel_start` meets its contract. Assumes nothing.
-use Rattle.builder_exports.specs.NumberLaws.{start-left}
+use Rattle.builder_exports.proofs.NumberLaws.{start-left}
 use borrow.Author.Needs.{needs}
 use Rattle.builder_exports.proofs.tambuyeel_start.Statement.{statement}
 use Rattle.builder_exports.proofs.tambuyeel_start.Tie as tie

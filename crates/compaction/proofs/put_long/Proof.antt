@@ -1,4 +1,4 @@
-use Rattle.compaction.specs.CutLaws.{roomed, long-put}
+use Rattle.compaction.specs.CutLaws.{room-kept, long-put}
 use native.Mathlib.Omega.{arith}
 use borrow.Author.Needs.{needs}
 use Rattle.compaction.proofs.put_long.Statement.{statement}
@@ -9,14 +9,14 @@ room-for-requires c κs = search needs
 
 put-value-requires : tie.Need-put-value-requires
 put-value-requires c κs =
-    let g = roomed _ _ _ _ (c .before .before .room-for .ensures) in
+    let g = room-kept _ _ _ _ (c .before .before .room-for .ensures) in
     let p = c .before .before .before .before .before .before .pre in
     record { row = p .row; place = omega arith; long = p .long; len = omega arith; block = omega arith; offset = omega arith }
 
 grown-requires : tie.Need-grown-requires
 grown-requires c κs =
     let b11 = c .before .before .before .before .before .before .before .before .before .before .before in
-    let g = roomed _ _ _ _ (c .before .before .before .before .before .before .before .room-for .ensures) in let p = b11 .pre in omega arith
+    let g = room-kept _ _ _ _ (c .before .before .before .before .before .before .before .room-for .ensures) in let p = b11 .pre in omega arith
 
 same-length : tie.Need-same-length
 same-length c = search needs

@@ -1,4 +1,4 @@
-use Rattle.compaction.specs.CutLaws.{roomed, table-short, table-long}
+use Rattle.compaction.specs.CutLaws.{room-kept, table-short, table-long}
 use native.Mathlib.Omega.{arith}
 use borrow.Author.Needs.{needs}
 use Rattle.compaction.proofs.put_record.Statement.{statement}
@@ -13,7 +13,7 @@ close-requires c κs = let p = c .before .before .before .before .before .pre in
 grown-requires : tie.Need-grown-requires
 grown-requires c κs =
     let b10 = c .before .before .before .before .before .before .before .before .before .before in
-    let g = roomed _ _ _ _ (c .before .before .before .before .close .ensures .0) in let p = b10 .pre .0 in omega arith
+    let g = room-kept _ _ _ _ (c .before .before .before .before .close .ensures .0) in let p = b10 .pre .0 in omega arith
 
 same-length : tie.Need-same-length
 same-length c = search needs

@@ -1,7 +1,7 @@
 use Rattle.compaction.specs.PassLaws.{row-there, row-reach, row-sized, row-in, filled}
 use Rattle.compaction.specs.LaidLaws.{laid-none, laid-next}
 use Rattle.compaction.specs.Steps.{Laid}
-use Rattle.compaction.specs.Compact.{valueAt}
+use Rattle.compaction.specs.Compact.{rowShown}
 use Rattle.views.specs.View.{viewAt}
 use Rattle.column.specs.Meaning.{shown, blocksOf, rowView}
 use Rattle.column.specs.Room.{bare}
@@ -66,7 +66,7 @@ loop-again c =
       omega arith,
       omega arith,
       rw (add-one (l .k)) (laid-next (a .most) (rowView (bare (now (a .views)) (now (a .bytes)) (now (a .starts)) (now (a .lens))) (a .c))
-          (valueAt (bare (now (a .views)) (now (a .bytes)) (now (a .starts)) (now (a .lens))) (a .c))
+          (rowShown (bare (now (a .views)) (now (a .bytes)) (now (a .starts)) (now (a .lens))) (a .c))
           _ _ (l .k) _ _ (l .s) _ _ _ (λ r g. row-sized (a .most) (now (a .views)) (now (a .bytes)) (now (a .starts)) (now (a .lens)) (a .c)
           (now (a .newviews)) (now (a .newbytes)) (p .0) (p .1) r (omega arith)) (l .inv .3) (c .before .before .before .before .put-row .ensures)),
     )

@@ -1,6 +1,6 @@
 use Rattle.compaction.specs.PassLaws.{table-in, few-at, listed-none, last-in, listed-some}
 use Rattle.compaction.specs.LaidLaws.{tabled-none, tabled-step}
-use Rattle.compaction.specs.Steps.{Tabled}
+use Rattle.compaction.specs.Steps.{CutTabled}
 use Rattle.views.specs.View.{viewAt}
 use Rattle.bounds.specs.Bounds.{row-limit-small}
 use lib.ListN.{length}
@@ -15,7 +15,7 @@ use Rattle.compaction.proofs.write_table.Tie as tie
 abbrev Inv-loop : tie.InvT-loop
 Inv-loop views first rows most newstarts₀ newlens₀ s₀ k₀ newstarts newlens s k = (k ≤ rows) × (length newstarts ≡ length newstarts₀)
     × (length newlens ≡ length newlens₀)
-    × Tabled most (λ r. viewAt views (first + r)) newstarts₀ newlens₀ k newstarts newlens s
+    × CutTabled most (λ r. viewAt views (first + r)) newstarts₀ newlens₀ k newstarts newlens s
 
 abbrev μ-loop : tie.MeasureT-loop
 μ-loop views first rows most newstarts₀ newlens₀ s₀ k₀ newstarts newlens s k = rows - k

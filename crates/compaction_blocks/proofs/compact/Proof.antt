@@ -43,7 +43,7 @@ use Rattle.bounds.specs.Refusals.{isAccepted, ifAccepted}
 use Rattle.column.specs.declared.Block.{Block}
 use Rattle.column.specs.declared.Column.{Column}
 use Rattle.column.specs.Lent.{Lent, buffers, fits}
-use Rattle.blocks.specs.Places.{Found}
+use Rattle.blocks.specs.Places.{PlaceFound}
 use Rattle.compaction.specs.declared.Outcome.{Outcome}
 use Rattle.compaction.specs.Steps.{mapBy}
 use Rattle.compaction_blocks.specs.declared.Pass.{Pass}
@@ -51,7 +51,7 @@ use Rattle.compaction_blocks.specs.declared.Plan.{Plan}
 use Rattle.compaction_blocks.specs.declared.Sizes.{Sizes}
 use Rattle.compaction_blocks.specs.Compacts.{Compacts}
 use Rattle.compaction_blocks.specs.Turns.{Sized, Judging, Plans, MapIn, Starts, Writes}
-use Rattle.compaction_blocks.specs.PlanLaws.{lowest-found, starts, maps, compacts}
+use Rattle.compaction_blocks.proofs.PlanLaws.{lowest-found, starts, maps, compacts}
 use Rattle.column.proofs.Block as T
 use Rattle.column.proofs.Column as K
 use Rattle.column.proofs.Column.Laws as K′
@@ -285,7 +285,7 @@ module _ {M : Type 1} (𝓤 : URA M) (H : Heap 𝓤) (A : Atoms 𝓤) (W : Given
   )
 
   abbrev Said2 : ℕ → ℕ → Type 0
-  Said2 r1 r2 = Found (now views) (now bytes) (now table) c r1 r2
+  Said2 r1 r2 = PlaceFound (now views) (now bytes) (now table) c r1 r2
 
   -- the verdict and the plan
   abbrev a3 : ℕ → RefT (List ℕ) × (RefT (List ℕ) × (Column × (ℕ × (ℕ × (ℕ × (Sizes × Unit {0}))))))

@@ -5,7 +5,7 @@ use denote.Ref.{now}
 use native.Mathlib.Omega.{arith}
 use borrow.Author.Tests.{not-true, not-false}
 use Rattle.bounds.specs.Bounds.{most-compaction-is, row-limit-small}
-use Rattle.compaction_blocks.specs.PlanLaws.{fits-low, plan-setting, plan-fit, plan-row, plan-rooms}
+use Rattle.compaction_blocks.proofs.PlanLaws.{fits-low, plan-setting, plan-fit, plan-row, plan-rooms}
 use borrow.Author.Needs.{needs}
 use Rattle.compaction_blocks.proofs.judge_with.Statement.{statement}
 use Rattle.compaction_blocks.proofs.judge_with.Tie as tie

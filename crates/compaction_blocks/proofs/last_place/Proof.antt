@@ -1,5 +1,5 @@
 -- `compaction_blocks::last_place` meets its contract. Assumes nothing.
-use Rattle.compaction_blocks.specs.TurnLaws.{last-none, last-some}
+use Rattle.compaction_blocks.proofs.TurnLaws.{last-none, last-some}
 use borrow.Author.Needs.{needs}
 use Rattle.compaction_blocks.proofs.last_place.Statement.{statement}
 use Rattle.compaction_blocks.proofs.last_place.Tie as tie

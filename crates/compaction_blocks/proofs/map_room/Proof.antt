@@ -1,7 +1,7 @@
 -- `compaction_blocks::map_room` meets its contract. Assumes nothing.
 use native.Mathlib.Omega.{arith}
 use Rattle.bounds.specs.Bounds.{row-limit-small}
-use Rattle.compaction_blocks.specs.PlanLaws.{map-needs, map-free}
+use Rattle.compaction_blocks.proofs.PlanLaws.{map-needs, map-free}
 use Rattle.compaction_blocks.proofs.map_room.Statement.{statement}
 use Rattle.compaction_blocks.proofs.map_room.Tie as tie
 

@@ -1,6 +1,6 @@
 -- `compaction_blocks::place` meets its contract. Assumes nothing.
 use native.Mathlib.Omega.{arith}
-use Rattle.compaction_blocks.specs.TurnLaws.{place-short, place-in, place-over}
+use Rattle.compaction_blocks.proofs.TurnLaws.{place-short, place-in, place-over}
 use borrow.Author.Needs.{needs}
 use Rattle.compaction_blocks.proofs.place.Statement.{statement}
 use Rattle.compaction_blocks.proofs.place.Tie as tie

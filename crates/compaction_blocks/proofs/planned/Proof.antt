@@ -2,7 +2,7 @@
 use native.Mathlib.Omega.{arith}
 use mathlib.Core.Path.{sym, _∙_}
 use borrow.Author.Tests.{not-true, not-false}
-use Rattle.compaction_blocks.specs.PlanLaws.{plan-no, plan-yes}
+use Rattle.compaction_blocks.proofs.PlanLaws.{plan-no, plan-yes}
 use borrow.Author.Needs.{needs}
 use Rattle.compaction_blocks.proofs.planned.Statement.{statement}
 use Rattle.compaction_blocks.proofs.planned.Tie as tie

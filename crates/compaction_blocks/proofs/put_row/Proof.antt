@@ -7,7 +7,7 @@ use native.Mathlib.Omega.{arith}
 use Rattle.views.specs.View.{viewSize}
 use Rattle.column.specs.SpotLaws.{spot-lies}
 use Rattle.compaction.specs.CutLaws.{view-paste, row-short, row-long}
-use Rattle.compaction_blocks.specs.PlanLaws.{value-sized, value-is}
+use Rattle.compaction_blocks.proofs.PlanLaws.{value-sized, value-is}
 use borrow.Author.Needs.{needs}
 use Rattle.compaction_blocks.proofs.put_row.Statement.{statement}
 use Rattle.compaction_blocks.proofs.put_row.Tie as tie

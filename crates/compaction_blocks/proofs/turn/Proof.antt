@@ -1,7 +1,7 @@
 -- `compaction_blocks::turn` meets its contract. Assumes nothing.
 use mathlib.Core.Path.{refl, ap, _∙_}
 use native.Mathlib.Omega.{arith}
-use Rattle.compaction_blocks.specs.Turns.{placeOf}
+use Rattle.compaction_blocks.specs.Turns.{recordPlace}
 use borrow.Author.Needs.{needs}
 use Rattle.compaction_blocks.proofs.turn.Statement.{statement}
 use Rattle.compaction_blocks.proofs.turn.Tie as tie
@@ -68,7 +68,7 @@ returns-2 c =
       more = λ h. record {
         left = omega arith;
         row = refl;
-        at = c .place .ensures ∙ ap (λ n. placeOf (a .most) n (a .p .stand) (a .p .count)) (b8 .view-len .ensures .0);
+        at = c .place .ensures ∙ ap (λ n. recordPlace (a .most) n (a .p .stand) (a .p .count)) (b8 .view-len .ensures .0);
         put = c .before .before .before .before .before .put-row .ensures;
       };
       last = λ h. absurd (omega arith);

@@ -2,7 +2,7 @@
 use native.Mathlib.Omega.{arith}
 use borrow.Author.Tests.{not-true, not-false}
 use Rattle.bounds.specs.Bounds.{row-limit-is, block-limit-is, byte-limit-is}
-use Rattle.compaction_blocks.specs.PlanLaws.{rooms-limit, rooms-views, rooms-map, rooms-blocks, rooms-count, rooms-total, rooms-bytes, rooms-yes}
+use Rattle.compaction_blocks.proofs.PlanLaws.{rooms-limit, rooms-views, rooms-map, rooms-blocks, rooms-count, rooms-total, rooms-bytes, rooms-yes}
 use Rattle.compaction_blocks.proofs.why_rooms.Statement.{statement}
 use Rattle.compaction_blocks.proofs.why_rooms.Tie as tie
 

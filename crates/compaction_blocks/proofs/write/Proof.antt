@@ -52,7 +52,7 @@ use Rattle.column.specs.declared.Block.{Block}
 use Rattle.column.specs.declared.Column.{Column}
 use Rattle.compaction_blocks.specs.declared.Pass.{Pass}
 use Rattle.compaction_blocks.specs.Turns.{TurnIn, Turned, Starts, Writes}
-use Rattle.compaction_blocks.specs.TurnLaws.{Going, going-first, going-in, going-next, going-fewer, going-last}
+use Rattle.compaction_blocks.proofs.TurnLaws.{Going, going-first, going-in, going-next, going-fewer, going-last}
 use Rattle.compaction_blocks.proofs.Again.{LentAgain, lends-again, comes-back}
 use Rattle.column.proofs.Block as T
 use Rattle.column.proofs.Block.Laws as T′

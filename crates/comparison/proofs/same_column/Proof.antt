@@ -1,7 +1,7 @@
 -- `comparison::same_column` meets its contract. Assumes nothing.
 use mathlib.Core.Path.{sym, ap₂, _∙_}
 use borrow.Author.Needs.{needs}
-use Rattle.comparison.specs.SameLaws.{all-comparable, same-left, same-right, other-count, rows-same, rows-differ}
+use Rattle.comparison.proofs.SameLaws.{all-comparable, same-left, same-right, other-count, rows-same, rows-differ}
 use Rattle.comparison.specs.Compare.{bothOf}
 use Rattle.comparison.specs.Same.{whySame}
 use Rattle.comparison.proofs.same_column.Statement.{statement}

@@ -6,7 +6,7 @@ use Rattle.bounds.specs.Bounds.{row-limit-small}
 use Rattle.column.specs.FitLaws.{fits-gives}
 use Rattle.column.specs.ReachLaws.{shown-bare}
 use Rattle.order.specs.Order.{same}
-use Rattle.comparison.specs.SameLaws.{bits-differ, bits-alike}
+use Rattle.comparison.proofs.SameLaws.{bits-differ, bits-alike}
 use Rattle.comparison.specs.VerdictLaws.{readable}
 use Rattle.comparison.proofs.same_row.Statement.{statement}
 use Rattle.comparison.proofs.same_row.Tie as tie

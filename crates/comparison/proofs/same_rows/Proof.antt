@@ -6,7 +6,7 @@ use native.Mathlib.Omega.{arith}
 use borrow.Author.Tests.{not-true, not-false}
 use Rattle.column.specs.Lent.{lent}
 use Rattle.comparison.specs.Same.{sameRows}
-use Rattle.comparison.specs.SameLaws.{row-differs, row-alike}
+use Rattle.comparison.proofs.SameLaws.{row-differs, row-alike}
 use Rattle.comparison.proofs.same_rows.Statement.{statement}
 use Rattle.comparison.proofs.same_rows.Tie as tie
 

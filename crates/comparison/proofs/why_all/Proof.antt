@@ -2,7 +2,7 @@
 use mathlib.Core.Path.{sym, _∙_}
 use borrow.Author.Needs.{needs}
 use borrow.Author.Tests.{not-false}
-use Rattle.comparison.specs.SameLaws.{all-unfit, all-judged, judged-bare, rows-in-room}
+use Rattle.comparison.proofs.SameLaws.{all-unfit, all-judged, judged-bare, rows-in-room}
 use Rattle.comparison.proofs.why_all.Statement.{statement}
 use Rattle.comparison.proofs.why_all.Tie as tie
 

@@ -1,4 +1,4 @@
-use Rattle.copy.specs.Over.{copied}
+use Rattle.copy.specs.Over.{copiedUpTo}
 use Rattle.copy.specs.OverLaws.{copied-none, copied-all, copied-more, copied-length}
 use Prim.Native.Nat.{_+_, _-_, _≤_}
 use lib.ListN.{length}
@@ -10,7 +10,7 @@ use Rattle.copy.proofs.chunks.Statement.{statement}
 use Rattle.copy.proofs.chunks.Tie as tie
 
 abbrev Inv-loop : tie.InvT-loop
-Inv-loop src dst₀ n o₀ dst o = (n ≡ length src) × (o ≤ n) × (length dst ≡ length dst₀) × (dst ≡ copied dst₀ src o)
+Inv-loop src dst₀ n o₀ dst o = (n ≡ length src) × (o ≤ n) × (length dst ≡ length dst₀) × (dst ≡ copiedUpTo dst₀ src o)
 
 abbrev μ-loop : tie.MeasureT-loop
 μ-loop src dst₀ n o₀ dst o = n - o

@@ -1,11 +1,15 @@
 use Rattle.copy.proofs.Laws.{overlap}
 use Prim.Native.Nat.{_-_}
 use lib.ListN.{length}
+use mathlib.Core.Path.{_≡_}
 use denote.Ref.{now}
 use native.Mathlib.Omega.{arith}
 use borrow.Author.Needs.{needs}
 use Rattle.copy.proofs.two_halves.Statement.{statement}
 use Rattle.copy.proofs.two_halves.Tie as tie
+
+half-requires : tie.Need-half-requires
+half-requires c κs = search needs
 
 sub-o : tie.Need-sub-o
 sub-o c = search needs
@@ -49,14 +53,17 @@ same-length c = search needs
 returns : tie.Need-returns
 returns c =
     let b12 = c .before .before .before .before .before .before .before .before .before .before .before .before in
-    let s = b12 .args in
-    overlap (now (s .dst)) (now (s .src)) _ _ 32 (length (now (s .src)) - 32) (omega arith) (omega arith)
-    (c .before .before .before .before .before .before .before .four-words .ensures) (c .before .before .four-words2 .ensures)
+    let s = b12 .before .args in
+    let m = c .before .before .before .before .before .before .before .before .before .before .half .result in
+    let z : m - 0 ≡ m = omega arith in
+    overlap (now (s .dst)) (now (s .src)) _ _ m (length (now (s .src)) - m) (omega arith) (omega arith)
+    (rw z at (c .before .before .before .before .before .before .before .four-words .ensures)) (c .before .before .four-words2 .ensures)
 
 pub two-halves-spec : {M : Type 1} → statement M
 two-halves-spec =
     tie.close
     (tie.spec
+    half-requires
     sub-o
     sub-four-words
     part-four-words-start

@@ -1,7 +1,7 @@
 -- `exports::tambuyeel_check` meets its contract. Assumes nothing.
 use mathlib.Core.Path.{ap, _∙_}
 use borrow.Author.Needs.{needs}
-use Rattle.exports.specs.Exported.{whyTold}
+use Rattle.numbers.specs.Numbers.{whyTold}
 use Rattle.exports.proofs.tambuyeel_check.Statement.{statement}
 use Rattle.exports.proofs.tambuyeel_check.Tie as tie
 

@@ -2,7 +2,8 @@
 use mathlib.Core.Path.{sym, ap, _∙_}
 use borrow.Author.Needs.{needs}
 use Prim.Native.Nat.{ℕ}
-use Rattle.exports.specs.Exported.{place, placeTold}
+use Rattle.numbers.specs.Numbers.{place}
+use Rattle.exports.specs.Exported.{placeTold}
 use Rattle.exports.proofs.told_place.Statement.{statement}
 use Rattle.exports.proofs.told_place.Tie as tie
 

@@ -2,7 +2,8 @@
 use mathlib.Core.Path.{sym, ap, ap₂, _∙_}
 use Prim.Native.Nat.{ℕ, _+_}
 use borrow.Author.Needs.{needs}
-use Rattle.exports.specs.Exported.{told, sameTold}
+use Rattle.numbers.specs.Numbers.{told}
+use Rattle.exports.specs.Exported.{sameTold}
 use Rattle.exports.proofs.told_same.Statement.{statement}
 use Rattle.exports.proofs.told_same.Tie as tie
 

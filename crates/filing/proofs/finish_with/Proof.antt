@@ -2,7 +2,7 @@ use mathlib.Core.Path.{sym, _∙_}
 use Rattle.bounds.specs.Bounds.{block-limit-small}
 use borrow.Author.Tests.{not-true, not-false}
 use Rattle.filing.specs.FilesLaws.{fitted}
-use Rattle.filing.specs.EndLaws.{ended-no, ended-finished}
+use Rattle.filing.proofs.EndLaws.{ended-no, ended-finished}
 use denote.Ref.{now}
 use native.Mathlib.Omega.{arith}
 use borrow.Author.Needs.{needs}

@@ -2,7 +2,7 @@ use Rattle.bounds.specs.Bounds.{row-limit-small}
 use Rattle.builder.specs.Rooms.{roomOfBlocks}
 use mathlib.Core.Path.{sym, _∙_}
 use borrow.Author.Tests.{not-true, not-false}
-use Rattle.filing.specs.EndLaws.{null-room, null-no, null-yes}
+use Rattle.filing.proofs.EndLaws.{null-room, null-no, null-yes}
 use denote.Ref.{now}
 use native.Mathlib.Omega.{arith}
 use borrow.Author.Needs.{needs}

@@ -45,7 +45,7 @@ use Rattle.builder.specs.declared.State.{State}
 use Rattle.column.specs.Lent.{block}
 use Rattle.column.specs.declared.Block.{Block}
 use Rattle.filing.specs.Files.{filed}
-use Rattle.filing.specs.Rows.{Sees}
+use Rattle.filing.specs.Rows.{RowSees}
 use Rattle.views.specs.View.{blockOf, viewAt}
 use Rattle.column.proofs.Block as T
 use Rattle.column.proofs.Block.Laws as T′
@@ -191,7 +191,7 @@ module _ {M : Type 1} (𝓤 : URA M) (H : Heap 𝓤) (A : Atoms 𝓤) (W : Given
   )
 
   abbrev Said3 : (r1 : ℕ) (u1 : Val) (r2 : Block) (u2 : Val) (r3 : Why) → Type 0
-  Said3 r1 u1 r2 u2 r3 = ((t : List Block) → (length (now table)) ≡ length t → Sees (now views) r r2 t
+  Said3 r1 u1 r2 u2 r3 = ((t : List Block) → (length (now table)) ≡ length t → RowSees (now views) r r2 t
       → r3 ≡ whyGet (filed s (now views) (now bytes) t (now nulls) (now places)) r)
 
   module _ (C : Calls 𝓤 H) (Λ : Loops 𝓤 H) (fm : FmC 𝓤 H (W .laws) C) (known1 : Triple 𝓤 (C #Cnamed) (Cnamed 𝓤 H A mem run))

@@ -54,8 +54,8 @@ use Rattle.column.specs.Lent.{buffers}
 use Rattle.column.specs.declared.Block.{Block}
 use Rattle.column.specs.declared.Column.{Column}
 use Rattle.filing.specs.Files.{Files}
-use Rattle.filing_columns.specs.Columns.{Counts, Lays, Source, Sourced}
-use Rattle.filing_columns.specs.ColumnsLaws.{counts-source, source-is}
+use Rattle.filing_columns.specs.Columns.{Counts, Lays, SourceJudged, Sourced}
+use Rattle.filing_columns.proofs.ColumnsLaws.{counts-source, source-is}
 use Rattle.filing_columns.specs.declared.Poured.{Poured}
 use Rattle.validity.specs.Check.{whyInvalid}
 use Rattle.bounds.proofs.Why as Y
@@ -297,7 +297,7 @@ module _ {M : Type 1} (𝓤 : URA M) (H : Heap 𝓤) (A : Atoms 𝓤) (W : Given
       (List ℕ × (Unit {0} × (Unit {0} × (List ℕ × (Unit {0} × (Unit {0} × (Unit {0} × (Unit {0} × (Unit {0} × (Unit {0} × Unit {0}))))))))))) → Type 0
   Said5 r2 u2 r4 r5 zs5 = (bs ps cb : List ℕ) (t u : List Block) → length (now bytes) ≡ length bs → length (now places) ≡ length ps → length (now table)
       ≡ length t
-      → Source s (now srcviews) cb u (now srcnulls) c r2 r4 → Lays (length bs) (r5 .first) (r5 .base) cb u (r5 .blocks)
+      → SourceJudged s (now srcviews) cb u (now srcnulls) c r2 r4 → Lays (length bs) (r5 .first) (r5 .base) cb u (r5 .blocks)
       × Files (whyColumn (buffers (now srcviews) cb u (now srcnulls)) c) (putColumn (buffers (now srcviews) cb u (now srcnulls)) c) s (now views) bs t
       (now nulls) ps (r5 .answer) (zs5 .1 .0) (putData (blockBytes (buffers [] cb u [])) (r5 .blocks) bs (r5 .base))
       (putRecords (blockBytes (buffers [] cb u [])) (r5 .blocks) (set t (r5 .at) (r5 .block)) (r5 .first) (r5 .base)) (zs5 .1 .1 .1 .1 .0) ps
@@ -350,7 +350,7 @@ module _ {M : Type 1} (𝓤 : URA M) (H : Heap 𝓤) (A : Atoms 𝓤) (W : Given
   -- what is known of the column when its rows are added
   sourced : (r1 : Column) (r2 : Why) (r3 r4 : ℕ) → r1 ≡ byKind (s .kind) c → r2 ≡ whyInvalid (buffers (now srcviews) (now srcbytes) (now srctable)
       (now srcnulls)) r1
-      → r3 ≡ ifAccepted r2 (c .blocks) 0 → r4 ≡ sizes (buffers [] [] (now srctable) []) r3 → Source s (now srcviews) (now srcbytes) (now srctable) (now
+      → r3 ≡ ifAccepted r2 (c .blocks) 0 → r4 ≡ sizes (buffers [] [] (now srctable) []) r3 → SourceJudged s (now srcviews) (now srcbytes) (now srctable) (now
       srcnulls) c r2 r4
   sourced r1 r2 r3 r4 e1 e2 e3 e4 = source-is s (now srcviews) (now srcbytes) (now srcnulls) (now srctable) c r2 r1 r3 r4 e1 e2 e3 e4
 

@@ -8,7 +8,7 @@ use Rattle.builder.specs.declared.State.{State}
 use mathlib.Core.Path.{sym, ap, _∙_}
 use borrow.Author.Tests.{not-true, not-false}
 use Rattle.bounds.specs.Bounds.{row-limit-small, block-limit-small, byte-limit-small}
-use Rattle.filing_columns.specs.ColumnsLaws.{sourced-small, roomy, poured-no, poured-yes}
+use Rattle.filing_columns.proofs.ColumnsLaws.{sourced-small, roomy, poured-no, poured-yes}
 use denote.Ref.{now}
 use native.Mathlib.Omega.{arith}
 use borrow.Author.Needs.{needs}

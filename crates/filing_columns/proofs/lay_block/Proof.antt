@@ -1,6 +1,6 @@
 -- `filing_columns::lay_block` meets its contract. Assumes nothing.
 use mathlib.Core.Path.{_∙_}
-use Rattle.filing_columns.specs.ColumnsLaws.{lay-is}
+use Rattle.filing_columns.proofs.ColumnsLaws.{lay-is}
 use denote.Ref.{now}
 use borrow.Author.Needs.{needs}
 use Rattle.filing_columns.proofs.lay_block.Statement.{statement}

@@ -58,7 +58,7 @@ use Rattle.column.specs.Lent.{buffers, block}
 use Rattle.column.specs.Meaning.{bytesOf}
 use Rattle.column.specs.declared.Block.{Block}
 use Rattle.filing_columns.specs.Columns.{Lays}
-use Rattle.filing_columns.specs.ColumnsLaws.{data-none, records-none, end-none, block-inside, block-room, data-more, records-more, end-more, data-kept, records-kept}
+use Rattle.filing_columns.proofs.ColumnsLaws.{data-none, records-none, end-none, block-inside, block-room, data-more, records-more, end-more, data-kept, records-kept}
 use Rattle.column.proofs.Block as T
 use Rattle.column.proofs.Block.Laws as T′
 use Rattle.tables.proofs.block_or as Cblockorm

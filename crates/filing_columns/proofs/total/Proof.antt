@@ -49,7 +49,7 @@ use Rattle.builder.specs.Others.{sizes}
 use Rattle.column.specs.Lent.{buffers, block}
 use Rattle.column.specs.declared.Block.{Block}
 use Rattle.filing_columns.specs.Columns.{Counts}
-use Rattle.filing_columns.specs.ColumnsLaws.{sizes-none, sizes-more, sizes-small, sizes-fits}
+use Rattle.filing_columns.proofs.ColumnsLaws.{sizes-none, sizes-more, sizes-small, sizes-fits}
 use Rattle.column.proofs.Block as T
 use Rattle.column.proofs.Block.Laws as T′
 use Rattle.tables.proofs.block_or as Cblockorm

@@ -3,7 +3,7 @@ use mathlib.Core.Path.{sym, _∙_}
 use borrow.Author.Tests.{not-true, not-false}
 use Rattle.bounds.specs.Bounds.{row-limit-small, byte-limit-small}
 use lib.ListN.{length-take}
-use Rattle.filing_columns.specs.ViewsLaws.{shows, viewed-no, viewed-yes}
+use Rattle.filing_columns.proofs.ViewsLaws.{shows, viewed-no, viewed-yes}
 use denote.Ref.{now}
 use native.Mathlib.Omega.{arith}
 use borrow.Author.Needs.{needs}

@@ -5,7 +5,7 @@ use Rattle.bounds.specs.Bounds.{byte-limit-small}
 use mathlib.Core.List.{[]}
 use Rattle.column.specs.Lent.{buffers}
 use Rattle.column.specs.FitLaws.{in-data-gives}
-use Rattle.filing_columns.specs.ViewsLaws.{says-fit, says-none, says-outside, says-over, says-kind, says-full, says-fine}
+use Rattle.filing_columns.proofs.ViewsLaws.{says-fit, says-none, says-outside, says-over, says-kind, says-full, says-fine}
 use denote.Ref.{now}
 use native.Mathlib.Omega.{arith}
 use borrow.Author.Needs.{needs}

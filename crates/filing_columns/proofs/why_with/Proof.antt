@@ -2,7 +2,7 @@
 use mathlib.Core.Path.{sym, _∙_}
 use borrow.Author.Tests.{not-true, not-false}
 use Rattle.bounds.specs.Bounds.{row-limit-small, block-limit-small, byte-limit-small}
-use Rattle.filing_columns.specs.ColumnsLaws.{by-fit, by-source, by-full, by-room, fit-small}
+use Rattle.filing_columns.proofs.ColumnsLaws.{by-fit, by-source, by-full, by-room, fit-small}
 use native.Mathlib.Omega.{arith}
 use borrow.Author.Needs.{needs}
 use Rattle.filing_columns.proofs.why_with.Statement.{statement}

@@ -1,6 +1,6 @@
 use native.Mathlib.Numerals.{add-one}
 use Rattle.builder.specs.declared.State.{State}
-use Rattle.filing_values.specs.ValueLaws.{files-short}
+use Rattle.filing_values.proofs.ValueLaws.{files-short}
 use Rattle.builder.specs.RoomLaws.{room-gives}
 use Rattle.filing.specs.FilesLaws.{blank}
 use Rattle.bounds.specs.Bounds.{row-limit-small}

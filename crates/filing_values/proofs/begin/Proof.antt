@@ -1,4 +1,4 @@
-use Rattle.filing_values.specs.QuestLaws.{begin-off, begin-none, begin-on}
+use Rattle.filing_values.proofs.QuestLaws.{begin-off, begin-none, begin-on}
 use native.Mathlib.Nat.{mod-lt}
 use lib.ListN.{length}
 use Prim.Native.Nat.{ℕ, _%_}

@@ -52,9 +52,9 @@ use Rattle.builder.specs.declared.State.{State}
 use Rattle.column.specs.Lent.{block}
 use Rattle.column.specs.Room.{bare}
 use Rattle.column.specs.declared.Block.{Block}
-use Rattle.filing_values.specs.QuestLaws.{going-last, going-on}
+use Rattle.filing_values.proofs.QuestLaws.{going-last, going-on}
 use Rattle.filing_values.specs.Quests.{Going, rest}
-use Rattle.filing.specs.Rows.{Names}
+use Rattle.filing.specs.Rows.{RowNames}
 use Rattle.filing_values.specs.declared.Quest.{Quest}
 use Rattle.views.specs.View.{blockOf, viewAt}
 use Rattle.column.proofs.Block as T
@@ -241,7 +241,7 @@ module _ {M : Type 1} (𝓤 : URA M) (H : Heap 𝓤) (A : Atoms 𝓤) (W : Given
   abbrev Said3 : (q : Quest) (r1 : ℕ) (u1 : Val) (r2 : Block) (u2 : Val) (r3 : Quest) → Type 0
   Said3 q r1 u1 r2 u2 r3 = (0 < q .left → r3 .left < q .left) × ((ss ns : List ℕ) → Ready s (now views) ss ns → allBlocks s ≤ blockLimit
       → 12 < length (now x) → q .place < length (now places) → 0 < q .left → ((getD (now places) (q .place) 0 ≡ 0 → ⊥) → getD (now places) (q .place)
-      0 - 1 < s .rows → Names (now views) (getD (now places) (q .place) 0 - 1) r2 ss ns)
+      0 - 1 < s .rows → RowNames (now views) (getD (now places) (q .place) 0 - 1) r2 ss ns)
       → (rest (now places) (showsRow s (bare (now views) (now bytes) ss ns) (now x)) r3
       ≡ rest (now places) (showsRow s (bare (now views) (now bytes) ss ns) (now x)) q) × (0 < r3 .left → r3 .place < length (now places)))
 

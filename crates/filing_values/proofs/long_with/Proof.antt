@@ -5,7 +5,7 @@ use Rattle.builder.specs.State.{used}
 use Rattle.bounds.specs.Refusals.{isAccepted}
 use Rattle.builder.specs.declared.State.{State}
 use mathlib.Core.Bool.{true≢false}
-use Rattle.filing_values.specs.ValueLaws.{files-row, files-full, files-lay}
+use Rattle.filing_values.proofs.ValueLaws.{files-row, files-full, files-lay}
 use Rattle.builder.specs.RoomLaws.{fits-gives, room-gives}
 use Rattle.filing.specs.FilesLaws.{blank}
 use Rattle.bounds.specs.Bounds.{row-limit-small, block-limit-small, byte-limit-small}

@@ -1,4 +1,4 @@
-use Rattle.filing_values.specs.ValueLaws.{room-keeps, room-opens}
+use Rattle.filing_values.proofs.ValueLaws.{room-keeps, room-opens}
 use borrow.Author.Needs.{needs}
 use Rattle.filing_values.proofs.room_record.Statement.{statement}
 use Rattle.filing_values.proofs.room_record.Tie as tie

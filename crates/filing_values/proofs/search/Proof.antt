@@ -38,7 +38,7 @@ use denote.Enum.Laws as EL
 use Rattle.builder.specs.Values.{foundBy}
 use Rattle.builder.specs.declared.State.{State}
 use Rattle.column.specs.declared.Block.{Block}
-use Rattle.filing_values.specs.QuestLaws.{going-first}
+use Rattle.filing_values.proofs.QuestLaws.{going-first}
 use Rattle.filing_values.specs.Quests.{Going, Searched, rest}
 use Rattle.filing_values.specs.declared.Quest.{Quest}
 use Rattle.merging.specs.declared.Found.{Found}

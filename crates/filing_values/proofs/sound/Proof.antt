@@ -1,4 +1,4 @@
-use Rattle.filing_values.specs.QuestLaws.{sound-row, sound-late, sound-free, sound-far, sound-none}
+use Rattle.filing_values.proofs.QuestLaws.{sound-row, sound-late, sound-free, sound-far, sound-none}
 use borrow.Author.Needs.{needs}
 use Rattle.filing_values.proofs.sound.Statement.{statement}
 use Rattle.filing_values.proofs.sound.Tie as tie

@@ -1,4 +1,4 @@
-use Rattle.filing_values.specs.QuestLaws.{rest-empty, rest-hit, rest-next}
+use Rattle.filing_values.proofs.QuestLaws.{rest-empty, rest-hit, rest-next}
 use mathlib.Core.Path.{sym, _∙_}
 use denote.Ref.{now}
 use native.Mathlib.Omega.{arith}

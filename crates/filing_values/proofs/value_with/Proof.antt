@@ -1,5 +1,5 @@
 use Rattle.builder.specs.Rooms.{roomOfBlocks}
-use Rattle.filing_values.specs.ValueLaws.{times-no, times-none, times-judged, times-on, sound-found, files-not, files-many}
+use Rattle.filing_values.proofs.ValueLaws.{times-no, times-none, times-judged, times-on, sound-found, files-not, files-many}
 use Rattle.builder.specs.RoomLaws.{room-many}
 use Rattle.filing.specs.FilesLaws.{blank}
 use Rattle.bounds.specs.Bounds.{row-limit-small}

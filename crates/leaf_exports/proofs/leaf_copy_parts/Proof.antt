@@ -2,7 +2,7 @@ use Rattle.leaf_exports.proofs.Laws.{no-parts}
 use Rattle.leaf_exports.proofs.Laws.{parts-end}
 use Rattle.leaf_exports.specs.Batches.{partsCopied}
 use Rattle.copy.specs.OverLaws.{copied-none, copied-more, copied-length}
-use Rattle.copy.specs.Over.{copied}
+use Rattle.copy.specs.Over.{copiedUpTo}
 use native.Mathlib.Nat.{add-mod-right, zero-mod}
 use lib.ListN.{length}
 use Prim.Native.Nat.{_+_, _-_, _%_, _≤_, _<_, min}
@@ -15,7 +15,7 @@ use Rattle.leaf_exports.proofs.leaf_copy_parts.Tie as tie
 
 abbrev Inv-loop : tie.InvT-loop
 Inv-loop src dst₀ n room o₀ dst o = (0 < n) × (room ≡ min (length src) (length dst₀)) × (o ≤ room) × (o % n ≡ 0) × (length dst ≡ length dst₀)
-    × (dst ≡ copied dst₀ src o)
+    × (dst ≡ copiedUpTo dst₀ src o)
 
 abbrev μ-loop : tie.MeasureT-loop
 μ-loop src dst₀ n room o₀ dst o = room - o
@@ -86,7 +86,7 @@ unfolding partsCopied
 returns-2 c =
     let s = c .before .before .before .before .before .before .args in
     let l = c .before .loop in
-    l .inv .5 ∙ ap (copied (now (s .dst)) (now (s .src))) (rw (l .inv .1) at (parts-end (s .n) _ (l .o) (l .inv .3) (l .inv .2) (omega arith)))
+    l .inv .5 ∙ ap (copiedUpTo (now (s .dst)) (now (s .src))) (rw (l .inv .1) at (parts-end (s .n) _ (l .o) (l .inv .3) (l .inv .2) (omega arith)))
 
 pub leaf-copy-parts-spec : {M : Type 1} → statement M
 leaf-copy-parts-spec =

@@ -4,7 +4,7 @@ use lib.Seq.{take-length}
 use lib.ListN.{length, take}
 use Prim.Native.Nat.{_+_, _-_, _≤_}
 use Rattle.listing.specs.Put.{Put}
-use Rattle.listing.specs.Laws.{put-none, put-next}
+use Rattle.listing.specs.Laws.{put-nothing, put-next}
 use denote.Ref.{now}
 use native.Mathlib.Omega.{arith}
 use Rattle.listing.proofs.put_bytes.Statement.{statement}
@@ -17,7 +17,7 @@ abbrev μ-loop : tie.MeasureT-loop
 μ-loop out₀ at s k₀ out k = length s - k
 
 loop-holds : tie.Need-loop-holds Inv-loop μ-loop
-loop-holds c = (omega arith, rw add-zero (put-none _ _))
+loop-holds c = (omega arith, rw add-zero (put-nothing _ _))
 
 shared-slice-read-out : tie.Need-shared-slice-read-out Inv-loop μ-loop
 shared-slice-read-out c = omega arith

@@ -3,7 +3,7 @@ use native.Mathlib.Omega.{arith}
 use denote.Ref.{now}
 use lib.ListN.{getD}
 use lib.Pow.{pow-pos}
-use Rattle.null_bits.specs.CountLaws.{counted}
+use Rattle.null_bits.specs.CountLaws.{count-is}
 use Rattle.null_bits.proofs.Laws.{shl-one-32, part-is, part-le, count-at}
 use borrow.Author.Needs.{needs}
 use Rattle.null_bits.proofs.count_part.Statement.{statement}
@@ -34,7 +34,7 @@ returns : tie.Need-returns
 returns c =
     let a = c .before .args in
     let x = getD (now (a .map)) (a .i) 0 / 2 ^ a .skip in
-    counted _ _ _ _ (rw (part-is x (a .rows) (omega arith), count-at (now (a .map)) (a .i) (a .skip) (a .rows) (omega arith) (omega arith)))
+    count-is _ _ _ _ (rw (part-is x (a .rows) (omega arith), count-at (now (a .map)) (a .i) (a .skip) (a .rows) (omega arith) (omega arith)))
 
 pub count-part-spec : {M : Type 1} → statement M
 count-part-spec =

@@ -2,7 +2,7 @@ use mathlib.Core.Path.{_≡_}
 use Prim.Native.Nat.{_+_, _*_, _/_, _%_}
 use native.Mathlib.Omega.{arith}
 use Rattle.null_bits.specs.Bits.{countValid}
-use Rattle.null_bits.specs.CountLaws.{counted}
+use Rattle.null_bits.specs.CountLaws.{count-is}
 use Rattle.null_bits.proofs.Laws.{count-three, count-four, cut}
 use borrow.Author.Needs.{needs}
 use Rattle.null_bits.proofs.count_valid.Statement.{statement}
@@ -10,7 +10,7 @@ use Rattle.null_bits.proofs.count_valid.Tie as tie
 
 returns : tie.Need-returns
 unfolding countValid
-returns c = counted _ _ _ _ (rw (c .if1 .taken))
+returns c = count-is _ _ _ _ (rw (c .if1 .taken))
 
 sub-head : tie.Need-sub-head
 sub-head c = search needs
@@ -28,7 +28,7 @@ returns-2 : tie.Need-returns-2
 returns-2 c =
     let a = c .before .before .before .before .args in
     let e : 8 * (a .first / 8) + a .first % 8 ≡ a .first = omega arith in
-    counted _ _ _ _ (rw e at (c .count-part .ensures .is))
+    count-is _ _ _ _ (rw e at (c .count-part .ensures .is))
 
 cast-count-part-3 : tie.Need-cast-count-part-3
 cast-count-part-3 c = search needs
@@ -68,7 +68,7 @@ add-result-2 c = search needs
 
 returns-3 : tie.Need-returns-3
 returns-3 c =
-    counted _ _ _ _
+    count-is _ _ _ _
     (rw (c .before .before .before .count-part2 .ensures .is, c .before .before .count-words .ensures .is, c .before .count-bytes .ensures .is)
     (count-three _ _ _ _ _ _ _ _ _ (omega arith) (omega arith) (omega arith) (omega arith)))
 
@@ -92,7 +92,7 @@ add-result-5 c = search needs
 
 returns-4 : tie.Need-returns-4
 returns-4 c =
-    counted _ _ _ _
+    count-is _ _ _ _
     (rw (
       c .before .before .before .before .count-part2 .ensures .is,
       c .before .before .before .count-words .ensures .is,

@@ -4,7 +4,7 @@ use mathlib.Core.Path.{_≡_, refl}
 use Prim.Native.Nat.{_-_, _*_, _≤_}
 use native.Mathlib.Omega.{arith}
 use Rattle.null_bits.specs.Bits.{countValid}
-use Rattle.null_bits.specs.CountLaws.{count-le, counted}
+use Rattle.null_bits.specs.CountLaws.{count-le, count-is}
 use Rattle.null_bits.proofs.Laws.{count-more-word}
 use Rattle.null_bits.proofs.count_words.Statement.{statement}
 use Rattle.null_bits.proofs.count_words.Tie as tie
@@ -56,7 +56,7 @@ loop-again c =
 returns : tie.Need-returns Inv-loop μ-loop
 returns c =
     let e : c .before .loop .k ≡ c .before .before .before .args .words = omega arith in
-    counted _ _ _ _ (rw (← e) (c .before .loop .inv .1))
+    count-is _ _ _ _ (rw (← e) (c .before .loop .inv .1))
 
 pub count-words-spec : {M : Type 1} → statement M
 count-words-spec =

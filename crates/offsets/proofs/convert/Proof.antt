@@ -57,8 +57,8 @@ write-requires c κs =
     (c .before .before .before .before .judge .ensures) (sym (c .before .before .before .is-accepted .ensures)
     ∙ not-false _ (c .before .before .if1 .left)) _ (ap (λ (n : ℕ). n - 1) (c .before .count .ensures .0))
 
-copy-requires : tie.Need-copy-requires
-copy-requires c κs =
+chunks-requires : tie.Need-chunks-requires
+chunks-requires c κs =
     let b8 = c .before .before .before .before .before .before .before .before in
     let b22 = b8 .before .before .before .before .before .before .before .before .before .before .before .before .before .before in
     let a = b22 .args in let p = roomed (widthOf (a .large)) (source (now (a .offsets)) (now (a .bytes)) (now (a .nulls)) (a .mapped)) (a .kind)
@@ -129,7 +129,7 @@ returns-2 c =
     let a = b30 .args in converted (widthOf (a .large)) (source (now (a .offsets)) (now (a .bytes)) (now (a .nulls)) (a .mapped)) (a .kind)
     (now (a .newviews)) (now (a .newbytes)) (now (a .newstarts)) (now (a .newlens)) (now (a .newnulls)) _ (b16 .judge .ensures)
     (sym (b15 .is-accepted .ensures) ∙ not-false _ (b14 .if1 .left)) _ (ap (λ (n : ℕ). n - 1) (b13 .count .ensures .0)) _ _ _ _
-    (c .any-null .ensures) (b11 .write .ensures) (c .before .before .before .before .before .before .before .copy .ensures)
+    (c .any-null .ensures) (b11 .write .ensures) (c .before .before .before .before .before .before .before .chunks .ensures)
     (c .before .before .before .copy-column .ensures)
 
 pub convert-spec : {M : Type 1} → statement M
@@ -147,7 +147,7 @@ convert-spec =
     count-requires
     sub-rows
     write-requires
-    copy-requires
+    chunks-requires
     slice-write-newstarts
     slice-write-newlens
     copy-column-requires

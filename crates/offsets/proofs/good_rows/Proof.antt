@@ -2,7 +2,7 @@ use Rattle.offsets.specs.Offsets.{source, widthOf, kindAt}
 use Prim.Native.Nat.{ℕ, _-_, _≤_, _<_}
 use mathlib.Core.Bool.{true}
 use borrow.Author.Count.{below-more}
-use Rattle.offsets.specs.TextLaws.{kind-any}
+use Rattle.offsets.proofs.TextLaws.{kind-any}
 use borrow.Author.Tests.{not-true, not-false}
 use mathlib.Core.Path.{_≡_, sym, _∙_}
 use denote.Ref.{now}

@@ -1,6 +1,6 @@
 use Rattle.offsets.specs.Offsets.{widthOf}
 use lib.ListN.{length}
-use Rattle.offsets.specs.RowLaws.{view-null, view-valid, cut-most}
+use Rattle.offsets.proofs.RowLaws.{view-null, view-valid, cut-most}
 use borrow.Author.Tests.{not-true, not-false}
 use mathlib.Core.Path.{sym, ap, _∙_}
 use denote.Ref.{now}

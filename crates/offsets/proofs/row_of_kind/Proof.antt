@@ -1,4 +1,4 @@
-use Rattle.offsets.specs.RowLaws.{kind-null, kind-valid}
+use Rattle.offsets.proofs.RowLaws.{kind-null, kind-valid}
 use borrow.Author.Tests.{not-true, not-false}
 use mathlib.Core.Path.{sym, _∙_}
 use borrow.Author.Needs.{needs}

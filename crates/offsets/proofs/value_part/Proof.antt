@@ -1,4 +1,4 @@
-use Rattle.offsets.specs.RowLaws.{cut-is}
+use Rattle.offsets.proofs.RowLaws.{cut-is}
 use borrow.Author.Needs.{needs}
 use Rattle.offsets.proofs.value_part.Statement.{statement}
 use Rattle.offsets.proofs.value_part.Tie as tie

@@ -1,7 +1,7 @@
 use Prim.Native.Nat.{_+_}
 use Rattle.offsets.specs.Offsets.{widthOf, cutAt}
 use mathlib.Core.Bool.{true≢false}
-use Rattle.offsets.specs.TextLaws.{binary-all, text-row}
+use Rattle.offsets.proofs.TextLaws.{binary-all, text-row}
 use borrow.Author.Tests.{not-true, not-false}
 use mathlib.Core.Path.{sym, _∙_}
 use denote.Ref.{now}

@@ -2,7 +2,7 @@ use Rattle.laying.specs.Written.{putRows}
 use Rattle.offsets.specs.Offsets.{source, widthOf, rowViewOf}
 use Prim.Native.Nat.{_-_, _≤_}
 use lib.ListN.{length}
-use Rattle.offsets.specs.RowLaws.{rows-none, rows-more}
+use Rattle.offsets.proofs.RowLaws.{rows-none, rows-more}
 use mathlib.Core.Path.{_≡_, refl}
 use native.Mathlib.Omega.{arith}
 use borrow.Author.Needs.{needs}

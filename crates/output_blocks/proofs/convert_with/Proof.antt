@@ -2,7 +2,7 @@
 use denote.Ref.{now}
 use borrow.Author.Needs.{needs}
 use Rattle.offsets.specs.Offsets.{source}
-use Rattle.output_blocks.specs.TabledLaws.{one-most, tabled}
+use Rattle.output_blocks.proofs.TabledLaws.{one-most, tabled}
 use Rattle.output_blocks.proofs.convert_with.Statement.{statement}
 use Rattle.output_blocks.proofs.convert_with.Tie as tie
 

@@ -2,8 +2,8 @@
 use denote.Ref.{now}
 use borrow.Author.Needs.{needs}
 use Rattle.column.specs.Lent.{lent}
-use Rattle.exports.specs.Exported.{columnOf}
-use Rattle.output_exports.specs.GivenLaws.{compacts}
+use Rattle.numbers.specs.Numbers.{columnFrom}
+use Rattle.output_exports.proofs.GivenLaws.{compacts}
 use Rattle.output_exports.proofs.tambuyeel_compact.Statement.{statement}
 use Rattle.output_exports.proofs.tambuyeel_compact.Tie as tie
 
@@ -13,8 +13,8 @@ column-of-requires c κs = search needs
 compact-requires : tie.Need-compact-requires
 compact-requires c κs = search needs
 
-put-column-requires : tie.Need-put-column-requires
-put-column-requires c κs = search needs
+hand-requires : tie.Need-hand-requires
+hand-requires c κs = search needs
 
 told-why-requires : tie.Need-told-why-requires
 told-why-requires c κs = search needs
@@ -41,10 +41,10 @@ returns c =
     let b31 = b20 .before .before .before .before .before .before .before .before .before .before .before in
     let a = b31 .args in
     let did = b14 .compact in
-    compacts (a .most) (lent (now (a .views)) (now (a .bytes)) (now (a .starts)) (now (a .lens)) (now (a .nulls))) (columnOf (now (a .column)))
+    compacts (a .most) (lent (now (a .views)) (now (a .bytes)) (now (a .starts)) (now (a .lens)) (now (a .nulls))) (columnFrom (now (a .column)))
     (b20 .column-of .result)
     (now (a .newviews)) (now (a .newbytes)) (now (a .newstarts)) (now (a .newlens)) (now (a .newnulls)) (now (a .newcolumn))
-    (did .result) (c .told-why .result) _ _ _ _ _ _ (b20 .column-of .ensures) (did .ensures) (c .before .put-column .ensures) (c .told-why .ensures)
+    (did .result) (c .told-why .result) _ _ _ _ _ _ (b20 .column-of .ensures) (did .ensures) (c .before .hand .ensures) (c .told-why .ensures)
 
 pub tambuyeel-compact-spec : {M : Type 1} → statement M
 tambuyeel-compact-spec =
@@ -52,7 +52,7 @@ tambuyeel-compact-spec =
     (tie.spec
     column-of-requires
     compact-requires
-    put-column-requires
+    hand-requires
     told-why-requires
     same-length
     same-length-2

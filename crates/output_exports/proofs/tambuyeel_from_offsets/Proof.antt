@@ -4,8 +4,8 @@ use lib.Dec.{eqb}
 use denote.Ref.{now}
 use borrow.Author.Needs.{needs}
 use Rattle.offsets.specs.Offsets.{source}
-use Rattle.exports.specs.Exported.{kindOf}
-use Rattle.output_exports.specs.GivenLaws.{converts}
+use Rattle.numbers.specs.Numbers.{kindFrom}
+use Rattle.output_exports.proofs.GivenLaws.{converts}
 use Rattle.output_exports.proofs.tambuyeel_from_offsets.Statement.{statement}
 use Rattle.output_exports.proofs.tambuyeel_from_offsets.Tie as tie
 
@@ -15,8 +15,8 @@ kind-of-requires c κs = search needs
 from-offsets-requires : tie.Need-from-offsets-requires
 from-offsets-requires c κs = search needs
 
-put-column-requires : tie.Need-put-column-requires
-put-column-requires c κs = search needs
+hand-requires : tie.Need-hand-requires
+hand-requires c κs = search needs
 
 why-number-requires : tie.Need-why-number-requires
 why-number-requires c κs = search needs
@@ -46,9 +46,9 @@ returns c =
     let b29 = b20 .before .before .before .before .before .before .before .before .before in
     let a = b29 .args in
     let did = b14 .from-offsets in
-    converts (source (now (a .offsets)) (now (a .bytes)) (now (a .nulls)) (not (eqb (a .mapped) 0))) (kindOf (eqb (a .kind) 0)) (b20 .kind-of .result)
+    converts (source (now (a .offsets)) (now (a .bytes)) (now (a .nulls)) (not (eqb (a .mapped) 0))) (kindFrom (a .kind)) (b20 .kind-of .result)
     (now (a .newviews)) (now (a .newbytes)) (now (a .newstarts)) (now (a .newlens)) (now (a .newnulls)) (now (a .newcolumn))
-    (did .result) (c .why-number .result) _ _ _ _ _ _ (b20 .kind-of .ensures) (did .ensures) (c .before .put-column .ensures) (c .why-number .ensures)
+    (did .result) (c .why-number .result) _ _ _ _ _ _ (b20 .kind-of .ensures) (did .ensures) (c .before .hand .ensures) (c .why-number .ensures)
 
 pub tambuyeel-from-offsets-spec : {M : Type 1} → statement M
 tambuyeel-from-offsets-spec =
@@ -56,7 +56,7 @@ tambuyeel-from-offsets-spec =
     (tie.spec
     kind-of-requires
     from-offsets-requires
-    put-column-requires
+    hand-requires
     why-number-requires
     cast-result
     same-length

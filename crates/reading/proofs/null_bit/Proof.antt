@@ -5,7 +5,7 @@ use borrow.Author.Needs.{needs}
 use Rattle.bounds.specs.Bounds.{row-limit-small}
 use Rattle.bounds.specs.Refusals.{isAccepted}
 use Rattle.column.specs.FitLaws.{fits-gives}
-use Rattle.column.specs.Meaning.{validAt}
+use Rattle.column.specs.Meaning.{rowValid}
 use Rattle.reading.specs.Reading.{bitOf, whyRow}
 use Rattle.reading.specs.ReadingLaws.{run-known, bit-valid, bit-null, bit-no}
 use Rattle.reading.proofs.null_bit.Statement.{statement}
@@ -30,7 +30,7 @@ valid-at-requires c κs =
     λ m. let b = f .bits m in omega arith
 
 returns : tie.Need-returns
-unfolding bitOf whyRow validAt
+unfolding bitOf whyRow rowValid
 returns c =
     bit-valid _ _ (sym (c .before .before .before .before .why-run .ensures) ∙ c .before .before .enum-told .given .1)
     (sym (c .before .valid-at .ensures) ∙ c .if1 .taken)
@@ -39,7 +39,7 @@ enum-known-why : tie.Need-enum-known-why
 enum-known-why c = search needs
 
 returns-2 : tie.Need-returns-2
-unfolding bitOf whyRow validAt
+unfolding bitOf whyRow rowValid
 returns-2 c =
     bit-null _ _ (sym (c .before .before .before .before .why-run .ensures) ∙ c .before .before .enum-told .given .1)
     (sym (c .before .valid-at .ensures) ∙ c .if1 .left)

@@ -89,14 +89,14 @@ cut-requires-3 c κs = search needs
 array-share-prefix-srcstarts : tie.Need-array-share-prefix-srcstarts
 array-share-prefix-srcstarts c = search needs
 
-slice-aggregate-tambuyeel-append-column : tie.Need-slice-aggregate-tambuyeel-append-column
-slice-aggregate-tambuyeel-append-column c = simp length-take (omega arith)
+slice-aggregate-pour : tie.Need-slice-aggregate-pour
+slice-aggregate-pour c = simp length-take (omega arith)
 
 array-share-prefix-srclens : tie.Need-array-share-prefix-srclens
 array-share-prefix-srclens c = search needs
 
-slice-aggregate-tambuyeel-append-column-2 : tie.Need-slice-aggregate-tambuyeel-append-column-2
-slice-aggregate-tambuyeel-append-column-2 c = simp length-take (omega arith)
+slice-aggregate-pour-2 : tie.Need-slice-aggregate-pour-2
+slice-aggregate-pour-2 c = simp length-take (omega arith)
 
 add-cut-4 : tie.Need-add-cut-4
 add-cut-4 c = search needs
@@ -113,11 +113,8 @@ add-cut-6 c = search needs
 cut-requires-4 : tie.Need-cut-requires-4
 cut-requires-4 c κs = search needs
 
-tambuyeel-append-column-requires : tie.Need-tambuyeel-append-column-requires
-tambuyeel-append-column-requires c κs = search needs
-
-plain-requires-5 : tie.Need-plain-requires-5
-plain-requires-5 c κs = search needs
+pour-requires : tie.Need-pour-requires
+pour-requires c κs = search needs
 
 same-length : tie.Need-same-length
 same-length c = search needs
@@ -169,16 +166,15 @@ add-column-spec =
     add-cut-3
     cut-requires-3
     array-share-prefix-srcstarts
-    slice-aggregate-tambuyeel-append-column
+    slice-aggregate-pour
     array-share-prefix-srclens
-    slice-aggregate-tambuyeel-append-column-2
+    slice-aggregate-pour-2
     add-cut-4
     add-cut-5
     mul-cut-2
     add-cut-6
     cut-requires-4
-    tambuyeel-append-column-requires
-    plain-requires-5
+    pour-requires
     same-length
     same-length-2
     same-length-3

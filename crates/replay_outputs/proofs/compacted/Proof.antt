@@ -49,73 +49,28 @@ stopped-requires-3 c κs = search needs
 returns-3 : tie.Need-returns-3
 returns-3 c = search needs
 
-slice-aggregate-compact : tie.Need-slice-aggregate-compact
-slice-aggregate-compact c = search needs
+slice-aggregate-weighed : tie.Need-slice-aggregate-weighed
+slice-aggregate-weighed c = search needs
 
-slice-aggregate-compact-2 : tie.Need-slice-aggregate-compact-2
-slice-aggregate-compact-2 c = search needs
+slice-aggregate-weighed-2 : tie.Need-slice-aggregate-weighed-2
+slice-aggregate-weighed-2 c = search needs
 
-slice-aggregate-compact-3 : tie.Need-slice-aggregate-compact-3
-slice-aggregate-compact-3 c = search needs
+slice-aggregate-weighed-3 : tie.Need-slice-aggregate-weighed-3
+slice-aggregate-weighed-3 c = search needs
 
-slice-aggregate-compact-4 : tie.Need-slice-aggregate-compact-4
-slice-aggregate-compact-4 c = search needs
+slice-aggregate-weighed-4 : tie.Need-slice-aggregate-weighed-4
+slice-aggregate-weighed-4 c = search needs
 
-slice-aggregate-compact-5 : tie.Need-slice-aggregate-compact-5
-slice-aggregate-compact-5 c = search needs
+slice-aggregate-weighed-5 : tie.Need-slice-aggregate-weighed-5
+slice-aggregate-weighed-5 c = search needs
 
-compact-requires : tie.Need-compact-requires
-compact-requires c κs =
-    let b21 = c .before .before .before .before .before .before .before .before .before .before .before .before .before .before .before .before
-    .before .before .before .before .before in
-    let b22 = b21 .before in
-    let f = b22 .in-room .ensures (not-false _ (b21 .if1 .left)) in
-    (search (needs, f), search (needs, f), search (needs, f), search (needs, f), search (needs, f))
-
-slice-aggregate-same-buffers : tie.Need-slice-aggregate-same-buffers
-slice-aggregate-same-buffers c = search needs
-
-slice-aggregate-same-buffers-2 : tie.Need-slice-aggregate-same-buffers-2
-slice-aggregate-same-buffers-2 c = search needs
-
-slice-aggregate-same-buffers-3 : tie.Need-slice-aggregate-same-buffers-3
-slice-aggregate-same-buffers-3 c = search needs
-
-slice-aggregate-same-buffers-4 : tie.Need-slice-aggregate-same-buffers-4
-slice-aggregate-same-buffers-4 c = search needs
-
-slice-aggregate-same-buffers-5 : tie.Need-slice-aggregate-same-buffers-5
-slice-aggregate-same-buffers-5 c = search needs
-
-slice-aggregate-same-buffers-6 : tie.Need-slice-aggregate-same-buffers-6
-slice-aggregate-same-buffers-6 c = search needs
-
-slice-aggregate-same-buffers-7 : tie.Need-slice-aggregate-same-buffers-7
-slice-aggregate-same-buffers-7 c = search needs
-
-slice-aggregate-same-buffers-8 : tie.Need-slice-aggregate-same-buffers-8
-slice-aggregate-same-buffers-8 c = search needs
-
-slice-aggregate-same-buffers-9 : tie.Need-slice-aggregate-same-buffers-9
-slice-aggregate-same-buffers-9 c = search needs
-
-slice-aggregate-same-buffers-10 : tie.Need-slice-aggregate-same-buffers-10
-slice-aggregate-same-buffers-10 c = search needs
-
-same-buffers-requires : tie.Need-same-buffers-requires
-same-buffers-requires c κs = search needs
-
-is-accepted-requires : tie.Need-is-accepted-requires
-is-accepted-requires c κs = search needs
-
-agrees-requires : tie.Need-agrees-requires
-agrees-requires c κs = search needs
-
-both-requires : tie.Need-both-requires
-both-requires c κs = search needs
-
-counted-requires : tie.Need-counted-requires
-counted-requires c κs = search needs
+weighed-requires : tie.Need-weighed-requires
+weighed-requires c κs =
+    let f = c .before .before .before .before .before .before .before .before .before .before .before .before .before .before .before .before .before
+    .before .before .before .before .before .before .in-room .ensures
+    (not-false _ (c .before .before .before .before .before .before .before .before .before .before .before .before .before .before .before
+    .before .before .before .before .before .before .before .if1 .left)) in
+    (search (needs, f), search (needs, f), search (needs, f), search (needs, f))
 
 returns-4 : tie.Need-returns-4
 returns-4 c = search needs
@@ -139,25 +94,10 @@ compacted-spec =
     load-requires
     stopped-requires-3
     returns-3
-    slice-aggregate-compact
-    slice-aggregate-compact-2
-    slice-aggregate-compact-3
-    slice-aggregate-compact-4
-    slice-aggregate-compact-5
-    compact-requires
-    slice-aggregate-same-buffers
-    slice-aggregate-same-buffers-2
-    slice-aggregate-same-buffers-3
-    slice-aggregate-same-buffers-4
-    slice-aggregate-same-buffers-5
-    slice-aggregate-same-buffers-6
-    slice-aggregate-same-buffers-7
-    slice-aggregate-same-buffers-8
-    slice-aggregate-same-buffers-9
-    slice-aggregate-same-buffers-10
-    same-buffers-requires
-    is-accepted-requires
-    agrees-requires
-    both-requires
-    counted-requires
+    slice-aggregate-weighed
+    slice-aggregate-weighed-2
+    slice-aggregate-weighed-3
+    slice-aggregate-weighed-4
+    slice-aggregate-weighed-5
+    weighed-requires
     returns-4)

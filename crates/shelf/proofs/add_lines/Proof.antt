@@ -1,7 +1,7 @@
 use Prim.Native.Nat.{ℕ, _-_, _≤_}
 use mathlib.Core.List.{List}
 use lib.ListN.{length, drop}
-use Rattle.shelf.specs.AddLaws.{added-next, added-end}
+use Rattle.shelf.proofs.AddLaws.{added-next, added-end}
 use Rattle.shelf.specs.LineLaws.{line-next, line-end}
 use Rattle.builder.specs.State.{Builder, held}
 use Rattle.shelf.specs.Adding.{addedAll}

@@ -1,4 +1,4 @@
-use Rattle.shelf.specs.AddLaws.{built-finished}
+use Rattle.shelf.proofs.AddLaws.{built-finished}
 use mathlib.Core.Path.{_∙_}
 use denote.Ref.{now}
 use borrow.Author.Needs.{needs}

@@ -1,7 +1,7 @@
 use Prim.Native.Nat.{_-_, _≤_}
 use lib.ListN.{length, drop}
 use Rattle.shelf.specs.LineLaws.{line-first, line-next, line-end, bad-here, bad-later, bad-none}
-use Rattle.shelf.specs.Lines.{lines, isBad, says, firstBad}
+use Rattle.shelf.specs.Lines.{lines, isBadLine, says, firstBadLine}
 use mathlib.Core.Path.{_≡_, refl, sym, ap, _∙_}
 use denote.Ref.{now}
 use native.Mathlib.Omega.{arith}
@@ -10,7 +10,7 @@ use Rattle.shelf.proofs.first_bad.Statement.{statement}
 use Rattle.shelf.proofs.first_bad.Tie as tie
 
 abbrev Inv-loop : tie.InvT-loop
-Inv-loop s at₀ n₀ at n = (at ≤ length s) × (n ≤ at) × (firstBad n (lines (drop at s)) ≡ firstBad 0 (lines s))
+Inv-loop s at₀ n₀ at n = (at ≤ length s) × (n ≤ at) × (firstBadLine n (lines (drop at s)) ≡ firstBadLine 0 (lines s))
 
 abbrev μ-loop : tie.MeasureT-loop
 μ-loop s at₀ n₀ at n = length s - at
@@ -42,8 +42,8 @@ add-result c = omega arith
 returns : tie.Need-returns Inv-loop μ-loop
 returns c =
     let b6 = c .before .before .before .before .before .before in let b8 = b6 .before .before in
-    let s = b8 .args .s .now in sym (bad-here _ _ _ (ap isBad (sym (c .before .before .says .ensures)) ∙ (sym (c .before .bad .ensures)
-    ∙ c .if1 .taken))) ∙ (ap (firstBad (b6 .loop .n)) (sym (line-first s (b6 .loop .at) (c .before .before .before .before .line-end .result)
+    let s = b8 .args .s .now in sym (bad-here _ _ _ (ap isBadLine (sym (c .before .before .says .ensures)) ∙ (sym (c .before .bad .ensures)
+    ∙ c .if1 .taken))) ∙ (ap (firstBadLine (b6 .loop .n)) (sym (line-first s (b6 .loop .at) (c .before .before .before .before .line-end .result)
     (omega arith) (c .before .before .before .before .line-end .ensures .0))) ∙ b6 .loop .inv .2)
 
 add-n : tie.Need-add-n Inv-loop μ-loop
@@ -61,15 +61,15 @@ loop-again c =
     let s = b9 .args .s .now in (
       omega arith,
       omega arith,
-      sym (bad-later _ _ _ (ap isBad (sym (c .before .before .before .says .ensures))
+      sym (bad-later _ _ _ (ap isBadLine (sym (c .before .before .before .says .ensures))
           ∙ (sym (c .before .before .bad .ensures) ∙ c .before .if1 .left)))
-          ∙ (ap (firstBad (b7 .loop .n)) (sym (line-next s (b7 .loop .at) (b5 .line-end .result) (c .after .result) (omega arith)
+          ∙ (ap (firstBadLine (b7 .loop .n)) (sym (line-next s (b7 .loop .at) (b5 .line-end .result) (c .after .result) (omega arith)
           (b5 .line-end .ensures .0) (c .after .ensures .2) (c .after .ensures .3))) ∙ b7 .loop .inv .2),
     )
 
 returns-2 : tie.Need-returns-2 Inv-loop μ-loop
 returns-2 c = let s = c .before .before .before .args .s .now in sym (bad-none (c .before .loop .n))
-    ∙ (ap (firstBad (c .before .loop .n)) (sym (line-end s (c .before .loop .at) (omega arith))) ∙ c .before .loop .inv .2)
+    ∙ (ap (firstBadLine (c .before .loop .n)) (sym (line-end s (c .before .loop .at) (omega arith))) ∙ c .before .loop .inv .2)
 
 pub first-bad-spec : {M : Type 1} → statement M
 first-bad-spec =

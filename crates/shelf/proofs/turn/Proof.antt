@@ -1,4 +1,4 @@
-use Rattle.shelf.specs.AddLaws.{added-value, added-null, added-none}
+use Rattle.shelf.proofs.AddLaws.{added-value, added-null, added-none}
 use mathlib.Core.Path.{sym, _∙_}
 use denote.Ref.{now}
 use borrow.Author.Needs.{needs}

@@ -3,7 +3,7 @@ use mathlib.Core.Path.{sym, ap, _∙_}
 use native.Mathlib.Omega.{arith}
 use denote.Ref.{now}
 use borrow.Author.Needs.{needs}
-use Rattle.utf8.specs.Table.{fits, ledBy}
+use Rattle.utf8.specs.Table.{inRanges, ledBy}
 use Rattle.utf8.specs.Lead.{tails}
 use Rattle.utf8.proofs.Laws.{front-at}
 use Rattle.utf8.proofs.seq.Statement.{statement}
@@ -40,7 +40,7 @@ enum-told-2 : tie.Need-enum-told-2
 enum-told-2 c = search needs
 
 returns : tie.Need-returns
-unfolding tails ledBy fits
+unfolding tails ledBy inRanges
 returns c =
     let a = c .before .before .before .before .before .args in
     (sym (front-at (now (a .s)) (a .i) (omega arith) (c .before .before .lead-of .ensures ∙ ap tails (c .enum-told .given .1))), omega arith)
@@ -67,7 +67,7 @@ returns-4 c =
     (c .more3 .ensures .0 ∙ sym led, search needs)
 
 returns-5 : tie.Need-returns-5
-unfolding tails ledBy fits
+unfolding tails ledBy inRanges
 returns-5 c =
     let a = c .before .before .before .before .before .args in
     (sym (front-at (now (a .s)) (a .i) (omega arith) (c .before .before .lead-of .ensures ∙ ap tails (c .enum-told2 .given .1))), omega arith)

@@ -12,7 +12,7 @@ use Rattle.column.specs.FitLaws.{fits-gives, fits-row, fits-listed}
 use Rattle.column.specs.Room.{bare}
 use Rattle.column.specs.Truth.{isTrue, trueAt}
 use Rattle.views.specs.View.{viewAt}
-use Rattle.validity.specs.CheckLaws.{invalid-fit, invalid-row, invalid-block, valid}
+use Rattle.validity.proofs.CheckLaws.{invalid-fit, invalid-row, invalid-block, valid}
 use Rattle.validity.proofs.check.Statement.{statement}
 use Rattle.validity.proofs.check.Tie as tie
 

@@ -6,8 +6,8 @@ use Rattle.values.proofs.append_value.Tie as tie
 anew-requires : tie.Need-anew-requires
 anew-requires c κs = search needs
 
-value-call-requires : tie.Need-value-call-requires
-value-call-requires c κs = search needs
+one-call-requires : tie.Need-one-call-requires
+one-call-requires c κs = search needs
 
 same-length : tie.Need-same-length
 same-length c = search needs
@@ -31,14 +31,14 @@ returns : tie.Need-returns
 returns c =
     let b12 = c .before .before .before .before .before .before .before .before .before .before .before .before in
     let b19 = b12 .before .before .before .before .before .before .before in
-    does-same _ _ _ _ _ _ _ _ _ _ (b19 .anew .ensures) (b12 .value-call .ensures)
+    does-same _ _ _ _ _ _ _ _ _ _ (b19 .anew .ensures) (b12 .one-call .ensures)
 
 pub append-value-spec : {M : Type 1} → statement M
 append-value-spec =
     tie.close
     (tie.spec
     anew-requires
-    value-call-requires
+    one-call-requires
     same-length
     same-length-2
     same-length-3

@@ -1,4 +1,4 @@
-use Rattle.whole.specs.Answer.{numberOf}
+use Rattle.whole.specs.Answer.{numberIs}
 use Rattle.whole.specs.RestLaws.{holds-closing}
 use mathlib.Core.Path.{ap, _∙_}
 use borrow.Author.Needs.{needs}
@@ -29,9 +29,9 @@ put-closing-requires c κs = search needs
 returns : tie.Need-returns
 returns c =
     holds-closing _ _
-    (c .before .before .before .before .before .number .ensures ∙ ap numberOf (c .before .before .before .before .before .before .null-run .ensures))
-    (c .before .before .before .number2 .ensures ∙ ap numberOf (c .before .before .before .before .total-bytes-len .ensures))
-    (c .before .number3 .ensures ∙ ap numberOf (c .before .before .total-buffer-bytes-used .ensures)) (c .put-closing .ensures)
+    (c .before .before .before .before .before .number .ensures ∙ ap numberIs (c .before .before .before .before .before .before .null-run .ensures))
+    (c .before .before .before .number2 .ensures ∙ ap numberIs (c .before .before .before .before .total-bytes-len .ensures))
+    (c .before .number3 .ensures ∙ ap numberIs (c .before .before .total-buffer-bytes-used .ensures)) (c .put-closing .ensures)
 
 pub closing-piece-spec : {M : Type 1} → statement M
 closing-piece-spec =

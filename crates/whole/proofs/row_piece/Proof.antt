@@ -1,4 +1,4 @@
-use Rattle.whole.specs.Answer.{isValid}
+use Rattle.whole.specs.Answer.{bitValid}
 use Rattle.whole.specs.RestLaws.{count-most, wrote-open, wrote-null}
 use mathlib.Core.Path.{ap}
 use native.Mathlib.Omega.{arith}
@@ -44,21 +44,21 @@ returns c =
     wrote-open _ _ _
     (c .before .before .before .before .before .before .before .before .before .before .pre .0) _
     (c .before .before .before .before .before .before .before .before .before .before .pre .1) (c .before .before .before .before .null-bit .ensures)
-    (ap isValid (c .before .before .enum-told .given .1)) (c .put-row-open .ensures)
+    (ap bitValid (c .before .before .enum-told .given .1)) (c .put-row-open .ensures)
 
 returns-2 : tie.Need-returns-2
 returns-2 c =
     wrote-null _ _ _
     (c .before .before .before .before .before .before .before .before .before .before .pre .0) _
     (c .before .before .before .before .before .before .before .before .before .before .pre .1) (c .before .before .before .before .null-bit .ensures)
-    (ap isValid (c .before .before .enum-told2 .given .1)) (c .put-row-null .ensures)
+    (ap bitValid (c .before .before .enum-told2 .given .1)) (c .put-row-null .ensures)
 
 returns-3 : tie.Need-returns-3
 returns-3 c =
     wrote-null _ _ _
     (c .before .before .before .before .before .before .before .before .before .before .before .pre .0) _
     (c .before .before .before .before .before .before .before .before .before .before .before .pre .1)
-    (c .before .before .before .before .before .null-bit .ensures) (ap isValid (c .before .before .before .bit .given .1)) (c .put-row-null2 .ensures)
+    (c .before .before .before .before .before .null-bit .ensures) (ap bitValid (c .before .before .before .bit .given .1)) (c .put-row-null2 .ensures)
 
 pub row-piece-spec : {M : Type 1} → statement M
 row-piece-spec =

@@ -3,7 +3,7 @@ use mathlib.Core.Path.{ap, _∙_}
 use borrow.Author.Needs.{needs}
 use native.Mathlib.Omega.{arith}
 use Rattle.exports.specs.Exported.{placeTold, placeAt}
-use Rattle.exports.specs.PartLaws.{prefix-none, prefix-some}
+use Rattle.exports.proofs.PartLaws.{prefix-none, prefix-some}
 use Rattle.exports.proofs.parts.tambuyeel_prefix.Statement.{statement}
 use Rattle.exports.proofs.parts.tambuyeel_prefix.Tie as tie
 

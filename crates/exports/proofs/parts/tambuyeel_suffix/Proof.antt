@@ -3,8 +3,8 @@ use mathlib.Core.Path.{ap, _∙_}
 use borrow.Author.Needs.{needs}
 use native.Mathlib.Omega.{arith}
 use Rattle.exports.specs.Exported.{placeTold, placeAt}
-use Rattle.exports.specs.PartLaws.{suffix-none, suffix-some}
-use Rattle.exports.specs.PlaceLaws.{place-ends}
+use Rattle.exports.proofs.PartLaws.{suffix-none, suffix-some}
+use Rattle.exports.proofs.PlaceLaws.{place-ends}
 use Rattle.bounds.specs.Bounds.{byte-limit-small}
 use Rattle.exports.proofs.parts.tambuyeel_suffix.Statement.{statement}
 use Rattle.exports.proofs.parts.tambuyeel_suffix.Tie as tie

@@ -88,6 +88,7 @@ impl ByteViewArray {
         lengthen(&mut self.bytes, bytes);
     }
 
+    #[inline]
     pub(crate) fn room(&mut self) -> Room<'_> {
         Room { views: &mut self.views, bytes: &mut self.bytes, starts: &mut self.starts, lens: &mut self.lens, nulls: &mut self.nulls }
     }

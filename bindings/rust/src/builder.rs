@@ -152,12 +152,19 @@ impl ByteViewBuilder {
     }
 
     /// Asks; where room is missing, makes it and asks again: a refused call has changed nothing. `more` is the rows, blocks and bytes that the call may add.
+    #[inline]
     fn growing<T>(&mut self, more: [usize; 3], call: impl Fn(&mut Self) -> Result<T, Error>) -> Result<T, Error> {
+        match call(self) {
+            Ok(answer) => Ok(answer),
+            Err(refused) => self.grown(refused, more, call),
+        }
+    }
+
+    /// The rest of it, which few calls come to.
+    #[cold]
+    #[inline(never)]
+    fn grown<T>(&mut self, mut refused: Error, more: [usize; 3], call: impl Fn(&mut Self) -> Result<T, Error>) -> Result<T, Error> {
         loop {
-            let refused = match call(self) {
-                Ok(answer) => return Ok(answer),
-                Err(refused) => refused,
-            };
             let longer = match refused.number() {
                 Error::ROW_ROOM => self.lengthen_rows(more[0]),
                 Error::BLOCK_ROOM => self.lengthen_blocks(more[1]),
@@ -167,6 +174,10 @@ impl ByteViewBuilder {
             if !longer {
                 return Err(refused);
             }
+            refused = match call(self) {
+                Ok(answer) => return Ok(answer),
+                Err(refused) => refused,
+            };
         }
     }
 
@@ -205,6 +216,7 @@ impl ByteViewBuilder {
     /// assert_eq!(codes.len(), 1);
     /// # Ok::<(), Error>(())
     /// ```
+    #[inline]
     pub fn append_value(&mut self, value: impl AsRef<[u8]>) -> Result<(), Error> {
         let x = value.as_ref();
         self.growing([1, 1, x.len()], |b| accepted(ffi::append_value(&mut b.state, b.held.room(), &mut b.places, x)))
@@ -232,6 +244,7 @@ impl ByteViewBuilder {
     /// assert_eq!((column.len(), column.buffers().bytes.len()), (40, 13));
     /// # Ok::<(), tambuyeel::Error>(())
     /// ```
+    #[inline]
     pub fn try_append_value_n(&mut self, value: impl AsRef<[u8]>, n: usize) -> Result<(), Error> {
         let x = value.as_ref();
         self.growing([n, 1, x.len()], |b| accepted(ffi::append_values(&mut b.state, b.held.room(), &mut b.places, x, n)))

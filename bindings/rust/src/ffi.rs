@@ -181,6 +181,7 @@ pub(crate) fn start(settings: &[usize; 5], state: &mut State, places: &mut [u32]
 /// Safe functions over a builder: the call with its state and six slices, then what is given with it.
 macro_rules! building {
     ($($name:ident = $call:ident($($arg:ident: $kind:ty),*; $($word:expr),*) -> $answer:ty;)*) => { $(
+        #[inline]
         pub(crate) fn $name(state: &mut State, r: Room<'_>, places: &mut [u32], $($arg: $kind),*) -> $answer {
             // SAFETY: the state is eleven numbers. Each pointer goes with the count of its own slice; the exclusive borrows keep what is
             // written apart from each other and from what is given to be read. The call stays within the counts and keeps nothing.

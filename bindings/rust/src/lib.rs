@@ -96,11 +96,13 @@ pub fn is_utf8(bytes: impl AsRef<[u8]>) -> bool {
 }
 
 /// An answer that is 0 or a refusal's number, by a call that names no row.
+#[inline]
 fn accepted(number: u64) -> Result<(), Error> {
     told(number, 0)
 }
 
 /// The same with the row that 11 names.
+#[inline]
 fn told(number: u64, row: usize) -> Result<(), Error> {
     if number == 0 {
         return Ok(());

@@ -1,5 +1,5 @@
 include!("../shared/link.rs");
 
 fn main() {
-    link(&["output_exports"]);
+    link(&["output_exports", "record_exports"]);
 }

@@ -49,6 +49,11 @@ calls! {
     records_append_values(x: *const u8, n: usize, times: usize) -> u64;
     records_append_null() -> u64;
     records_append_block(x: *const u8, n: usize) -> Counted;
+    records_append_view(block: u32, offset: u32, n: u32) -> u64;
+    records_append_column(
+        v: *const u8, vn: usize, b: *const u8, bn: usize, s: *const usize, sn: usize, l: *const usize, ln: usize, m: *const u8, mn: usize,
+        column: *const [usize; 5]
+    ) -> Told;
     records_why_get(row: usize) -> u64;
     records_get_value_is(row: usize, x: *const u8, n: usize) -> u64;
     records_finish(column: *mut [usize; 5]) -> u64;
@@ -164,12 +169,12 @@ impl Buffers {
     }
 
     pub fn append_view(&mut self, s: &mut Numbers, block: u32, offset: u32, n: u32) -> u64 {
-        with!(self, s, tambuyeel_append_view, block, offset, n)
+        both!(self, s, tambuyeel_append_view, records_append_view, |n| n, block, offset, n)
     }
 
     pub fn append_column(&mut self, s: &mut Numbers, c: &Lent) -> Told {
-        with!(self, s, tambuyeel_append_column, c.views.as_ptr(), c.views.len(), c.bytes.as_ptr(), c.bytes.len(), c.starts.as_ptr(), c.starts.len(),
-            c.lens.as_ptr(), c.lens.len(), c.nulls.as_ptr(), c.nulls.len(), &c.column)
+        both!(self, s, tambuyeel_append_column, records_append_column, |t: Told| t.number, c.views.as_ptr(), c.views.len(), c.bytes.as_ptr(), c.bytes.len(),
+            c.starts.as_ptr(), c.starts.len(), c.lens.as_ptr(), c.lens.len(), c.nulls.as_ptr(), c.nulls.len(), &c.column)
     }
 
     pub fn get_value(&mut self, s: &mut Numbers, row: usize) -> Place {

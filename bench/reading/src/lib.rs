@@ -60,6 +60,12 @@ unsafe extern "C" {
         starts2: *const usize, starts_len2: usize, lens2: *const usize, lens_len2: usize,
         nulls2: *const u8, nulls_len2: usize, column2: *const usize, j: usize,
     ) -> u64;
+    fn records_walk(
+        views: *const u8, views_len: usize, bytes: *const u8, bytes_len: usize,
+        starts: *const usize, starts_len: usize, lens: *const usize, lens_len: usize,
+        nulls: *const u8, nulls_len: usize, column: *const usize, row: usize,
+        want: *const u8, want_len: usize,
+    ) -> Counted;
     fn records_value_is(
         views: *const u8, views_len: usize, bytes: *const u8, bytes_len: usize,
         starts: *const usize, starts_len: usize, lens: *const usize, lens_len: usize,
@@ -157,11 +163,21 @@ impl Lent {
 
     /// Whether a row's value over records is the part at a place, and still that part when its bytes are others.
     pub fn value_through(&self, row: usize, buffer: u64, offset: usize, len: usize) -> bool {
+        self.twice(buffer, offset, len, |lent, want| lent!(records_value_is(), lent, (row, want.as_ptr(), want.len())) == 1)
+    }
+
+    /// Whether a step of the row walk over records from a row answers this, its value the part at a place, and still that part when its bytes are others.
+    pub fn walk_through(&self, row: usize, answer: Counted, buffer: u64, offset: usize, len: usize) -> bool {
+        self.twice(buffer, offset, len, |lent, want| lent!(records_walk(), lent, (row, want.as_ptr(), want.len())) == answer)
+    }
+
+    /// Asks twice with the part at a place, the second time with every byte of it changed where it lies.
+    fn twice(&self, buffer: u64, offset: usize, len: usize, asked: impl Fn(&Lent, &[u8]) -> bool) -> bool {
         let mut lent = self.clone();
         (0..2).all(|_| {
             let from = if buffer == 1 { &mut lent.bytes } else { &mut lent.views };
             let want = from[offset..offset + len].to_vec();
-            let same = lent!(records_value_is(), lent, (row, want.as_ptr(), want.len())) == 1;
+            let same = asked(&lent, &want);
             let from = if buffer == 1 { &mut lent.bytes } else { &mut lent.views };
             from[offset..offset + len].iter_mut().for_each(|b| *b ^= 255);
             same

@@ -17,6 +17,7 @@ struct Tally {
     calls: u64,
     rows: u64,
     both: u64,
+    through: u64,
     refusals: [u64; 14],
 }
 
@@ -33,6 +34,9 @@ impl Tally {
 
     fn tell(&self, name: &str) {
         println!("{name}: {} calls, {} rows, {} also by the original", self.calls, self.rows, self.both);
+        if self.through > 0 {
+            println!("  {} also over records", self.through);
+        }
         for (n, count) in self.refusals.iter().enumerate().filter(|(_, count)| **count > 0) {
             println!("  {:>2}: {count}", if n == 0 { "ok".into() } else { n.to_string() });
         }
@@ -62,6 +66,11 @@ fn uneven(calls: u64, out: &mut Lent, want: &mut Lent) {
     }
 }
 
+/// Whether the instruments hold as many records.
+fn few(l: &Lent) -> bool {
+    l.starts.len() <= 16 && l.lens.len() <= 16
+}
+
 fn differs(what: String) -> ! {
     eprintln!("{what}");
     std::process::exit(1)
@@ -71,9 +80,17 @@ fn check_compaction(t: &mut Tally, source: &Lent, raw: &Raw, most: u64, before: 
     let mut out = Lent::of_rooms(before, BEFORE);
     let (number, row, mut want) = wanted(answer, after);
     uneven(t.calls, &mut out, &mut want);
+    let mut other = out.clone();
     let told = source.compact(most as usize, &mut out);
     if (told.number, told.row) != (number, row) || out != want {
         differs(format!("maximum {most} {raw:?}\nours {told:?} {out:?}\nwant {number} {row} {want:?}"));
+    }
+    if few(source) && few(&other) {
+        let told = source.compact_through(most as usize, &mut other);
+        if (told.number, told.row) != (number, row) || other != want {
+            differs(format!("over records: maximum {most} {raw:?}\nours {told:?} {other:?}\nwant {number} {row} {want:?}"));
+        }
+        t.through += 1;
     }
     t.count(raw.column.rows.min(32767), both, answer);
 }

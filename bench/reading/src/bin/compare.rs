@@ -64,11 +64,17 @@ fn ours(q: &Question, left: &Lent, right: &Lent) -> Vec<(&'static str, Said)> {
             let [which, offset, len] = q.expected.part;
             let there = left.value_through(a, which.max(1) - 1, offset as usize, len as usize);
             let part = if there { q.expected.part } else { [9; 3] };
-            vec![
+            let mut said = vec![
                 ("value", placed(left.value(a))),
                 ("why_value", (why, 0, 0, 0, [0; 3])),
                 ("value over records", (left.why_value_through(a), 0, 0, 0, part)),
-            ]
+            ];
+            if q.call == 13 {
+                let (refused, number) = (q.expected.refusal, q.expected.number);
+                let walks = left.walk_through(a, Counted { refused, number: number as usize }, which.max(1) - 1, offset as usize, len as usize);
+                said.push(("walk over records", (refused, 0, 0, if walks { number } else { u64::MAX }, part)));
+            }
+            said
         }
     }
 }
@@ -89,7 +95,7 @@ fn side(q: &Question, g: &Group) -> u64 {
 fn expected(name: &str, q: &Question, g: &Group) -> Said {
     let e = &q.expected;
     let row = if name.starts_with("check") || name == "same_column" { e.row } else { 0 };
-    let number = if q.call == 13 { 0 } else { e.number };
+    let number = if q.call == 13 && name != "walk over records" { 0 } else { e.number };
     let part = if name == "why_value" { [0; 3] } else { e.part };
     (e.refusal, side(q, g), row, number, part)
 }

@@ -1,0 +1,33 @@
+-- `codes::two_digits` meets its contract. Assumes nothing.
+use Rattle.codes.specs.Grammar.{numberAfter}
+use native.Mathlib.Omega.{arith}
+use borrow.Author.Needs.{needs}
+use Rattle.codes.proofs.two_digits.Statement.{statement}
+use Rattle.codes.proofs.two_digits.Tie as tie
+
+sub-result : tie.Need-sub-result
+sub-result c = search needs
+
+cast-result : tie.Need-cast-result
+cast-result c = search needs
+
+mul-result : tie.Need-mul-result
+mul-result c = search needs
+
+sub-result-2 : tie.Need-sub-result-2
+sub-result-2 c = search needs
+
+cast-result-2 : tie.Need-cast-result-2
+cast-result-2 c = search needs
+
+add-result : tie.Need-add-result
+add-result c = search needs
+
+returns : tie.Need-returns
+unfolding numberAfter
+returns c = omega arith
+
+pub two-digits-spec : {M : Type 1} → statement M
+two-digits-spec =
+    tie.close
+    (tie.spec sub-result cast-result mul-result sub-result-2 cast-result-2 add-result returns)

@@ -1,0 +1,5 @@
+pub mod Ascii
+pub mod Grammar
+pub mod Recogniser
+pub mod MonthWords
+pub mod Marks

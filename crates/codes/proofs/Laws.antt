@@ -119,7 +119,7 @@ digits-of n x e = go (eqb (length x) n) (leb n (length x)) refl refl
     go false true p q = let m = eqb-false (length x) n p in let l = leb-true n (length x) q in digits-many n n x (omega arith)
     go false false p q = digits-few n n x (leb-false n (length x) q)
 
-leading-low : (x : List ℕ) → leading x ≤ length x
+pub leading-low : (x : List ℕ) → leading x ≤ length x
 unfolding leading
 leading-low [] = omega arith
 leading-low (b ∷ x) = go (isDigit b) (leading-low x)
@@ -196,7 +196,7 @@ module _ (x : List ℕ) (e : leading x ≡ length x) (h : length x ≡ 2) (n : �
 
 -- ---- a month
 
-both : (s t : Bool) → (s && t) ≡ true → (s ≡ true) × (t ≡ true)
+pub both : (s t : Bool) → (s && t) ≡ true → (s ≡ true) × (t ≡ true)
 both true t h = (refl, h)
 both false t h = absurd (true≢false (sym h))
 

@@ -3,3 +3,4 @@ pub mod Grammar
 pub mod Recogniser
 pub mod MonthWords
 pub mod Marks
+pub mod Examples

@@ -8,9 +8,8 @@ use native.Mathlib.Omega.{arith}
 use borrow.Author.Tests.{leb-true, le-leb, eqb-true, eqb-false, eq-eqb, ne-eqb, not-true}
 use lib.Dec.{leb}
 use lib.ListN.{length, getD}
-use Rattle.basis.specs.Pick.{pick}
 use Rattle.codes.specs.Grammar.{isLetter, isDigit, hyphenByte, ElementCode}
-use Rattle.codes.specs.Recogniser.{isHyphen, mayStand, parted, conforms}
+use Rattle.codes.specs.Recogniser.{isHyphen, isCodeByte, mayStand, parted, conforms}
 use Rattle.codes.proofs.Laws.{both}
 
 -- a letter, a digit or a hyphen
@@ -27,32 +26,39 @@ or-yes false = refl
 
 -- ---- one byte: what may stand, as the grammar says it
 
+module _ (b : ℕ) where
+  byte-in : isCodeByte b ≡ true → InCode b
+  unfolding isCodeByte
+  byte-in h = go (either (isHyphen b) (isLetter b || isDigit b) h)
+    where
+      word : (isLetter b ≡ true) ⊎ (isDigit b ≡ true) → InCode b
+      word (inl l) = inl l
+      word (inr d) = inr (inl d)
+
+      go : (isHyphen b ≡ true) ⊎ ((isLetter b || isDigit b) ≡ true) → InCode b
+      go (inl e) = inr (inr (eqb-true b 45 e))
+      go (inr w) = word (either (isLetter b) (isDigit b) w)
+
+  in-byte : InCode b → isCodeByte b ≡ true
+  unfolding isCodeByte
+  in-byte (inl l) = rw l (or-yes (isHyphen b))
+  in-byte (inr (inl d)) = rw (d, or-yes (isLetter b)) (or-yes (isHyphen b))
+  in-byte (inr (inr e)) = rw (eq-eqb b 45 e)
+
 module _ (after : Bool) (b : ℕ) where
   stands-in : mayStand after b ≡ true → InCode b × (after ≡ true → b ≢ hyphenByte)
   unfolding mayStand
-  stands-in = go (isHyphen b) refl
-    where
-      go : (t : Bool) → isHyphen b ≡ t → pick t (not after) (isLetter b || isDigit b) ≡ true → InCode b × (after ≡ true → b ≢ hyphenByte)
-      go true e h = (inr (inr (eqb-true b 45 e)), λ a q. true≢false (sym a ∙ not-true after h))
-      go false e h = (other (either (isLetter b) (isDigit b) h), λ a q. eqb-false b 45 e q)
-        where
-          other : (isLetter b ≡ true) ⊎ (isDigit b ≡ true) → InCode b
-          other (inl l) = inl l
-          other (inr d) = inr (inl d)
+  stands-in h =
+      let f = both (isCodeByte b) (not (after && isHyphen b)) h in
+      (byte-in b (f .0), λ a e. true≢false (sym (f .1) ∙ (λ i. not (a i && eq-eqb b 45 e i))))
 
   in-stands : InCode b → (after ≡ true → b ≢ hyphenByte) → mayStand after b ≡ true
   unfolding mayStand
-  in-stands c f = go (isHyphen b) refl c
+  in-stands c f = rw (in-byte b c) (go after refl)
     where
-      free : b ≡ hyphenByte → (t : Bool) → after ≡ t → not t ≡ true
-      free e true a = absurd (f a e)
-      free e false a = refl
-
-      go : (t : Bool) → isHyphen b ≡ t → InCode b → pick t (not after) (isLetter b || isDigit b) ≡ true
-      go true e c = free (eqb-true b 45 e) after refl
-      go false e (inl l) = rw l
-      go false e (inr (inl d)) = rw d (or-yes (isLetter b))
-      go false e (inr (inr h)) = absurd (eqb-false b 45 e h)
+      go : (t : Bool) → after ≡ t → not (t && isHyphen b) ≡ true
+      go true a = rw (ne-eqb b 45 (f a))
+      go false a = refl
 
 -- ---- a text of one byte or more; `after` where it may not begin with a hyphen
 

@@ -1,10 +1,11 @@
 -- The recogniser step by step, as the code takes it. Assumes nothing.
 use mathlib.Core.Path.{_≡_, refl, sym, ap, subst, _∙_}
-use mathlib.Core.Logic.{inl, inr}
-use mathlib.Core.Bool.{Bool, true, false, true≢false, not, _&&_, _||_}
+use mathlib.Core.Logic.{inl, inr, by-cases}
+use mathlib.Core.Bool.{Bool, true, false, true≢false, not, _&&_, _||_, xor}
 use mathlib.Core.List.{List, [], _∷_}
-use Prim.Native.Nat.{ℕ, zero, suc, _+_, _*_, _-_, _≤_, _<_, min}
+use Prim.Native.Nat.{ℕ, zero, suc, _+_, _*_, _-_, _/_, _%_, _^_, _≤_, _<_, min}
 use native.Mathlib.Omega.{arith}
+use native.Mathlib.Decide.{ℕ-discrete}
 use borrow.Author.Tests.{leb-true, leb-false, le-leb, lt-leb, eqb-true, eqb-false, eq-eqb, ne-eqb}
 use lib.Dec.{T, leb, eqb}
 use types.Run.{OneOf, hit}
@@ -15,10 +16,18 @@ use Rattle.basis.specs.Pick.{pick}
 use Rattle.order.specs.Order.{same}
 use Rattle.order.specs.OrderLaws.{same-is, same-no}
 use Rattle.codes.specs.Grammar.{isLetter, isDigit, numberAfter, months}
-use Rattle.codes.specs.Recogniser.{isHyphen, mayStand, parted, leading, pastHyphen, isDigits, isDay, isOneOf, isMonth, isYear, isMonthYear, isMonthDay, isDayMonth, isGroup, groupsFollow, isGroups, conforms, isDate}
+use Rattle.codes.specs.Recogniser.{isHyphen, isCodeByte, mayStand, parted, leading, pastHyphen, isDigits, isDay, isOneOf, isMonth, isYear, isMonthYear, isMonthDay, isDayMonth, isGroup, groupsFollow, isGroups, conforms, isDate}
 use Rattle.codes.specs.declared.Mark.the-variants.{Other, Code, Date}
 use Rattle.codes.specs.Marks.{markOf}
 use Rattle.codes.specs.MonthWords.{wordOf, isWordOf, isMonthWord}
+
+pub both : (s t : Bool) → (s && t) ≡ true → (s ≡ true) × (t ≡ true)
+both true t h = (refl, h)
+both false t h = absurd (true≢false (sym h))
+
+pub and-no : (t : Bool) → (t && false) ≡ false
+and-no true = refl
+and-no false = refl
 
 pub below : (lo hi b : ℕ) → b < lo → false ≡ (leb lo b && leb b hi)
 below lo hi b h = rw (lt-leb lo b h)
@@ -28,17 +37,62 @@ above lo hi b t h e = rw (le-leb lo b h) e
 
 -- ---- letters, digits and hyphens
 
-pub stands-hyphen : (after : Bool) (b : ℕ) → b ≡ 45 → not after ≡ mayStand after b
-unfolding mayStand
-stands-hyphen after b e = rw (eq-eqb b 45 e)
+same-bit : (s t : Bool) → not (xor s t) ≡ true → s ≡ t
+unfolding xor
+same-bit true true h = refl
+same-bit true false h = absurd (true≢false (sym h))
+same-bit false true h = absurd (true≢false (sym h))
+same-bit false false h = refl
 
-pub stands-letter : (after : Bool) (b : ℕ) → (b ≡ 45 → ⊥) → isLetter b ≡ true → true ≡ mayStand after b
-unfolding mayStand
-stands-letter after b e h = rw (ne-eqb b 45 e, h)
+-- bit k of the code's number
+abbrev codeBit : ℕ → Bool
+codeBit k = eqb (0x3FFFFFF01FF9 / 2 ^ k % 2) 1
 
-pub stands-digit : (after : Bool) (b : ℕ) (t : Bool) → (b ≡ 45 → ⊥) → isLetter b ≡ false → t ≡ isDigit b → t ≡ mayStand after b
-unfolding mayStand
-stands-digit after b t e h d = rw (ne-eqb b 45 e, h) d
+-- the first n bits are those of the bytes from the hyphen on
+bitsAgree : ℕ → Bool
+bitsAgree zero = true
+bitsAgree (suc n) = not (xor (codeBit n) (isCodeByte (n + 45))) && bitsAgree n
+
+bits-agree : bitsAgree 46 ≡ true
+unfolding bitsAgree isCodeByte isLetter isDigit xor
+bits-agree = refl
+
+bit-agrees : (n : ℕ) → bitsAgree n ≡ true → (k : ℕ) → k < n → codeBit k ≡ isCodeByte (k + 45)
+unfolding bitsAgree
+bit-agrees zero h k l = absurd (omega arith)
+bit-agrees (suc n) h k l =
+    let f = both (not (xor (codeBit n) (isCodeByte (n + 45)))) (bitsAgree n) h in
+    by-cases (ℕ-discrete k n) (λ e. rw e (same-bit (codeBit n) (isCodeByte (n + 45)) (f .0))) (λ d. bit-agrees n (f .1) k (omega arith))
+
+pub byte-bit : (b : ℕ) → 45 ≤ b → b ≤ 90 → codeBit (b - 45) ≡ isCodeByte b
+byte-bit b h g = let e : b - 45 + 45 ≡ b = omega arith in bit-agrees 46 bits-agree (b - 45) (omega arith) ∙ ap isCodeByte e
+
+pub byte-low : (b : ℕ) → b < 45 → false ≡ isCodeByte b
+unfolding isCodeByte isLetter isDigit
+byte-low b h = rw (ne-eqb b 45 (λ e. omega arith), lt-leb 65 b (omega arith), lt-leb 48 b (omega arith))
+
+pub byte-high : (b : ℕ) → 90 < b → false ≡ isCodeByte b
+unfolding isCodeByte isLetter isDigit
+byte-high b h =
+    rw (ne-eqb b 45 (λ e. omega arith), lt-leb b 90 (omega arith), lt-leb b 57 (omega arith), and-no (leb 65 b)) (sym (and-no (leb 48 b)))
+
+module _ (after : Bool) (b : ℕ) where
+  pub stands-not : isCodeByte b ≡ false → false ≡ mayStand after b
+  unfolding mayStand
+  stands-not h = rw h
+
+  module _ (h : isCodeByte b ≡ true) where
+    pub stands-hyphen : b ≡ 45 → not after ≡ mayStand after b
+    unfolding mayStand
+    stands-hyphen e = rw (h, eq-eqb b 45 e) (go after)
+      where
+        go : (t : Bool) → not t ≡ not (t && true)
+        go true = refl
+        go false = refl
+
+    pub stands-word : (b ≡ 45 → ⊥) → true ≡ mayStand after b
+    unfolding mayStand
+    stands-word e = rw (h, ne-eqb b 45 e, and-no after)
 
 module _ (s : List ℕ) (i : ℕ) where
   parted-step : (after : Bool) → i < length s → parted after (drop i s) ≡ (mayStand after (getD s i 0) && parted (isHyphen (getD s i 0)) (drop (i + 1) s))
@@ -89,10 +143,6 @@ past-other [] h e = absurd (h refl)
 past-other (b ∷ x) h e = rw (ne-eqb b 45 e)
 
 -- ---- a day
-
-and-no : (t : Bool) → (t && false) ≡ false
-and-no true = refl
-and-no false = refl
 
 pub digits-not : (lo hi : ℕ) (x : List ℕ) → (leading x ≡ length x → ⊥) → isDigits lo hi x ≡ false
 unfolding isDigits
@@ -195,10 +245,6 @@ module _ (x : List ℕ) (e : leading x ≡ length x) (h : length x ≡ 2) (n : �
   day-some z = rw (day-pair x e h, ← m, le-leb 1 n (omega arith))
 
 -- ---- a month
-
-pub both : (s t : Bool) → (s && t) ≡ true → (s ≡ true) × (t ≡ true)
-both true t h = (refl, h)
-both false t h = absurd (true≢false (sym h))
 
 isThree : List ℕ → Bool
 isThree [] = false

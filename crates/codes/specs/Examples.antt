@@ -7,7 +7,7 @@ use Rattle.codes.specs.Ascii.{ascii}
 use Rattle.codes.specs.declared.Mark.{Mark}
 use Rattle.codes.specs.declared.Mark.the-variants.{Other, Code, Date}
 use Rattle.codes.specs.Grammar.{isLetter, isDigit, numberAfter}
-use Rattle.codes.specs.Recogniser.{mayStand, parted, conforms, leading, pastHyphen, isDigits, isDay, isOneOf, isMonth, isYear, isMonthYear, isDayMonth, isMonthDay, groupsFollow, isGroups, isDate}
+use Rattle.codes.specs.Recogniser.{isCodeByte, mayStand, parted, conforms, leading, pastHyphen, isDigits, isDay, isOneOf, isMonth, isYear, isMonthYear, isDayMonth, isMonthDay, groupsFollow, isGroups, isDate}
 use Rattle.codes.specs.Marks.{markOf}
 
 pub record MarkedText : Type 0 where
@@ -55,6 +55,6 @@ markedTexts =
 
 -- each has its mark
 pub examples : map (λ (t : MarkedText). markOf (ascii (t .text))) markedTexts ≡ map (λ (t : MarkedText). t .mark) markedTexts
-unfolding markOf conforms parted mayStand isLetter isDigit leading pastHyphen isDigits isDay numberAfter isOneOf isMonth same isYear isMonthYear isDayMonth
-    isMonthDay groupsFollow isGroups isDate
+unfolding markOf conforms parted mayStand isCodeByte isLetter isDigit leading pastHyphen isDigits isDay numberAfter isOneOf isMonth same isYear
+    isMonthYear isDayMonth isMonthDay groupsFollow isGroups isDate
 examples = refl

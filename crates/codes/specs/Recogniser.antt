@@ -11,9 +11,12 @@ use Rattle.codes.specs.Grammar.{isLetter, isDigit, hyphenByte, numberAft
 abbrev pub isHyphen : ℕ → Bool
 isHyphen b = eqb b hyphenByte
 
--- a hyphen, or a letter or digit; `after`, at the start and after a hyphen, no hyphen
+unfoldable pub isCodeByte : ℕ → Bool
+isCodeByte b = isHyphen b || (isLetter b || isDigit b)
+
+-- `after`, at the start and after a hyphen, no hyphen
 unfoldable pub mayStand : Bool → ℕ → Bool
-mayStand after b = pick (isHyphen b) (not after) (isLetter b || isDigit b)
+mayStand after b = isCodeByte b && not (after && isHyphen b)
 
 -- letters, digits and single hyphens, none of them at the end
 unfoldable pub parted : Bool → List ℕ → Bool

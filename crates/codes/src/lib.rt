@@ -4,9 +4,9 @@ ghost use mathlib.Core.Bool.{true};
 ghost use mathlib.Core.List.{[], _∷_};
 ghost use Prim.Native.Nat.{_≤_};
 ghost use lib.ListN.{length, drop, take};
-ghost use Rattle.codes.specs.Grammar.{isLetter, isDigit, numberAfter};
+ghost use Rattle.codes.specs.Grammar.{isDigit, numberAfter};
 ghost use Rattle.codes.specs.Recogniser as spec;
-ghost use Rattle.codes.specs.Recogniser.{mayStand, parted, isDay, isMonth, isYear, isMonthYear, isDayMonth, isMonthDay, isGroup, groupsFollow, isGroups};
+ghost use Rattle.codes.specs.Recogniser.{isCodeByte, mayStand, parted, isDay, isMonth, isYear, isMonthYear, isDayMonth, isMonthDay, isGroup, groupsFollow, isGroups};
 ghost use Rattle.codes.specs.MonthWords.{isMonthWord};
 ghost use Rattle.codes.specs.Marks.{markOf, markNumber};
 
@@ -30,15 +30,6 @@ pub fn number_of(m: Mark) -> usize
     }
 }
 
-fn is_letter(b: u8) -> bool
-    ensures { λ r. ⌜ r ≡ isLetter b ⌝ }
-{
-    if b < 65 {
-        return false;
-    }
-    b <= 90
-}
-
 fn is_digit(b: u8) -> bool
     ensures { λ r. ⌜ r ≡ isDigit b ⌝ }
 {
@@ -48,17 +39,32 @@ fn is_digit(b: u8) -> bool
     b <= 57
 }
 
+// The bytes that a code may have, from the hyphen to Z, a bit each: no branch hangs on which of them it is.
+const CODE_BYTES: usize = 0x3ffffff01ff9;
+
+fn is_code_byte(b: u8) -> bool
+    ensures { λ r. ⌜ r ≡ isCodeByte b ⌝ }
+{
+    if b < 45 {
+        return false;
+    }
+    if 90 < b {
+        return false;
+    }
+    (CODE_BYTES >> (b as usize - 45)) % 2 == 1
+}
+
 // After a hyphen and at the start only a letter or a digit, else a hyphen too.
 fn may_stand(after: bool, b: u8) -> bool
     ensures { λ r. ⌜ r ≡ mayStand after b ⌝ }
 {
+    if !is_code_byte(b) {
+        return false;
+    }
     if b == 45 {
         return !after;
     }
-    if is_letter(b) {
-        return true;
-    }
-    is_digit(b)
+    true
 }
 
 // Letters, digits and single hyphens, none of them first or last.

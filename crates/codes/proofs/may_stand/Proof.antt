@@ -1,26 +1,22 @@
 -- `codes::may_stand` meets its contract. Assumes nothing.
-use Rattle.codes.proofs.Laws.{stands-hyphen, stands-letter, stands-digit}
 use mathlib.Core.Path.{sym, _∙_}
 use borrow.Author.Needs.{needs}
+use borrow.Author.Tests.{not-true, not-false}
+use Rattle.codes.proofs.Laws.{stands-not, stands-hyphen, stands-word}
 use Rattle.codes.proofs.may_stand.Statement.{statement}
 use Rattle.codes.proofs.may_stand.Tie as tie
 
-returns : tie.Need-returns
-returns c = stands-hyphen _ _ (c .if1 .taken)
+is-code-byte-requires : tie.Need-is-code-byte-requires
+is-code-byte-requires c κs = search needs
 
-is-letter-requires : tie.Need-is-letter-requires
-is-letter-requires c κs = search needs
+returns : tie.Need-returns
+returns c = stands-not _ _ (sym (c .before .is-code-byte .ensures) ∙ not-true _ (c .if1 .taken))
 
 returns-2 : tie.Need-returns-2
-returns-2 c = stands-letter _ _ (c .before .before .if1 .left) (sym (c .before .is-letter .ensures) ∙ c .if2 .taken)
-
-is-digit-requires : tie.Need-is-digit-requires
-is-digit-requires c κs = search needs
+returns-2 c = stands-hyphen _ _ (sym (c .before .before .is-code-byte .ensures) ∙ not-false _ (c .before .if1 .left)) (c .if2 .taken)
 
 returns-3 : tie.Need-returns-3
-returns-3 c = stands-digit _ _ _ (c .before .before .before .if1 .left) (sym (c .before .before .is-letter .ensures) ∙ c .before .if2 .left)
-    (c .is-digit .ensures)
+returns-3 c = stands-word _ _ (sym (c .before .before .is-code-byte .ensures) ∙ not-false _ (c .before .if1 .left)) (c .if2 .left)
 
 pub may-stand-spec : {M : Type 1} → statement M
-may-stand-spec =
-    tie.close (tie.spec returns is-letter-requires returns-2 is-digit-requires returns-3)
+may-stand-spec = tie.close (tie.spec is-code-byte-requires returns returns-2 returns-3)

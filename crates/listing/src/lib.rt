@@ -16,7 +16,7 @@ fn put(out: &mut [u8], at: usize, x: u8) -> usize
 }
 
 // The bytes of s more.
-fn put_bytes(out: &mut [u8], at: usize, s: &[u8]) -> usize
+pub fn put_bytes(out: &mut [u8], at: usize, s: &[u8]) -> usize
     requires { ⌜ at + length (now s) ≤ length (now out) ⌝ }
     ensures { λ r. ⌜ Put (now (out .entry)) (now (out .exit)) at r (now (s .entry)) ⌝ }
 {
@@ -75,7 +75,7 @@ pub fn row_part(out: &mut [u8], x: &[u8], from: usize, to: usize) -> usize
 }
 
 // `name`, a number, a line end.
-fn put_line(out: &mut [u8], at: usize, name: &[u8], n: usize) -> usize
+pub fn put_line(out: &mut [u8], at: usize, name: &[u8], n: usize) -> usize
     requires { ⌜ at + length (now name) + 21 ≤ length (now out) ⌝ }
     ensures { λ r. ⌜ Put (now (out .entry)) (now (out .exit)) at r (numberLine (now (name .entry)) n) ⌝ }
     ensures { λ r. ⌜ r ≤ at + length (now (name .entry)) + 21 ⌝ }

@@ -2,8 +2,8 @@ use mathlib.Core.Path.{_≡_}
 use Prim.Native.Nat.{_-_, _≤_}
 use lib.ListN.{length, length-take}
 use borrow.Author.Needs.{needs}
-use Rattle.shelflist.proofs.read_all.Statement.{statement}
-use Rattle.shelflist.proofs.read_all.Tie as tie
+use Rattle.console.proofs.read_all.Statement.{statement}
+use Rattle.console.proofs.read_all.Tie as tie
 
 abbrev Inv-loop : tie.InvT-loop
 Inv-loop input₀ done₀ input done = (length input ≡ length input₀) × (done ≤ length input)

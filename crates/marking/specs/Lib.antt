@@ -1,0 +1,4 @@
+pub mod Text
+pub mod Example
+pub mod Left
+pub mod LeftLaws

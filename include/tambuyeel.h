@@ -1,7 +1,8 @@
-/* Columns of byte views for C99 and C++: reading, comparison, the check, the builder, compaction and the offset column.
+/* Columns of byte views for C99 and C++: reading, comparison, the check, marks of element codes, the builder, compaction and the offset column.
 
-   Link target/libtambuyeel.a, which ./library makes of the proved crates exports, text_exports, builder_exports, times_exports and output_exports. It is
-   built for x86-64 Linux alone. The calls are proved in Rattle; this header is written by hand, and nothing proves that it says the same.
+   Link target/libtambuyeel.a, which ./library makes of the proved crates exports, text_exports, mark_exports, builder_exports, times_exports and
+   output_exports. It is built for x86-64 Linux alone. The calls are proved in Rattle; this header is written by hand, and nothing proves that it says the
+   same.
 
    What is lent
      A slice is a pointer and a count of elements; a null pointer with the count 0 is an empty slice. A pointer to a struct is never null.
@@ -52,7 +53,7 @@ enum {
     TAMBUYEEL_REFUSED_NO_BLOCK = 8,      /* no completed block of that number */
     TAMBUYEEL_REFUSED_RANGE = 9,         /* range outside the block, or the block outside the data */
     TAMBUYEEL_REFUSED_NOT_UTF8 = 10,     /* not UTF-8, String kind only */
-    TAMBUYEEL_REFUSED_VIEW = 11,         /* a view that isn't reachable (reading, comparing) or isn't true (check, compaction, appending) */
+    TAMBUYEEL_REFUSED_VIEW = 11,         /* a view that isn't reachable (reading, comparing, marks) or isn't true (check, compaction, appending) */
     TAMBUYEEL_REFUSED_BLOCK_NUMBER = 12, /* block number doesn't fit in 32 bits; never given, since a builder holds 4,096 blocks at most */
     TAMBUYEEL_REFUSED_OFFSETS = 13       /* offsets absent, negative, falling, or past the bytes */
 };
@@ -62,6 +63,9 @@ enum { TAMBUYEEL_LEFT = 16, TAMBUYEEL_RIGHT = 32 };
 
 /* What a comparison answers. */
 enum { TAMBUYEEL_LESS = 0, TAMBUYEEL_EQUAL = 1, TAMBUYEEL_GREATER = 2 };
+
+/* Marks of a row under the element code profile: a null; no element code; a code; a code that a spreadsheet would take for a date. */
+enum { TAMBUYEEL_MARK_NULL = 0, TAMBUYEEL_MARK_OTHER = 1, TAMBUYEEL_MARK_CODE = 2, TAMBUYEEL_MARK_DATE = 3 };
 
 /* Kinds of columns and builders; ways of growth and of merging. */
 enum { TAMBUYEEL_BINARY = 0, TAMBUYEEL_STRING = 1 };
@@ -144,6 +148,17 @@ typedef struct {
     size_t rows;
 } tambuyeel_run;
 
+/* How many rows have each mark: 0 or the refusal's number, the row that 11 names (0 where none is named), the nulls, the rows that are no codes, the codes,
+   the dates. A code that is a date counts among the dates alone. */
+typedef struct {
+    uint64_t refused;
+    size_t row;
+    size_t nulls;
+    size_t others;
+    size_t codes;
+    size_t dates;
+} tambuyeel_marks;
+
 /* Whether a text is well-formed UTF-8 (1 or 0), and how many of its first bytes are well-formed sequences: all, or where the first bad one begins. */
 typedef struct {
     uint64_t yes;
@@ -195,6 +210,16 @@ uint64_t tambuyeel_compare(TAMBUYEEL_COLUMN(), size_t i, TAMBUYEEL_COLUMN(2), si
 
 /* 2, 11, each tried on the left column first. Whether two columns have as many rows and, at each row, equal null bits and equal shown values: 1 or 0. */
 tambuyeel_told tambuyeel_same_column(TAMBUYEEL_COLUMN(), TAMBUYEEL_COLUMN(2));
+
+/* ----- Marks of element codes. An element code has 4 to 24 bytes from A to Z, 0 to 9 and hyphen, with no hyphen first, last or doubled. A date is a code
+   that is a day 1 to 31 in one or two digits, an optional hyphen, a month JAN to DEC, and optionally a hyphen and two or four digits; or a month, an optional
+   hyphen and a day; or two or three groups of digits joined by hyphens, each of one to four digits. */
+
+/* 2, 3, 11. A row's mark, TAMBUYEEL_MARK_... Under a null too a view has to be reachable. */
+tambuyeel_counted tambuyeel_mark(TAMBUYEEL_COLUMN(), size_t row);
+
+/* 2, 11 (the lowest row whose view isn't reachable). How many rows have each mark. */
+tambuyeel_marks tambuyeel_count_marks(TAMBUYEEL_COLUMN());
 
 /* ----- Views and text. */
 
@@ -461,6 +486,19 @@ static inline tambuyeel_verdict tambuyeel_same_column_in(const tambuyeel_lent *l
     tambuyeel_told t = tambuyeel_same_column(TAMBUYEEL_PASS(l, c), TAMBUYEEL_PASS(l2, c2));
     *same = t.number == 1;
     return tambuyeel_verdict_on_two(t.number, t.row, t.row);
+}
+
+static inline tambuyeel_verdict tambuyeel_mark_in(const tambuyeel_lent *l, const tambuyeel_column *c, size_t row, size_t *mark)
+{
+    tambuyeel_counted n = tambuyeel_mark(TAMBUYEEL_PASS(l, c), row);
+    *mark = n.number;
+    return tambuyeel_verdict_on(n.refused, 0, row);
+}
+
+static inline tambuyeel_verdict tambuyeel_count_marks_in(const tambuyeel_lent *l, const tambuyeel_column *c, tambuyeel_marks *marks)
+{
+    *marks = tambuyeel_count_marks(TAMBUYEEL_PASS(l, c));
+    return tambuyeel_verdict_on(marks->refused, 0, marks->row);
 }
 
 static inline tambuyeel_verdict tambuyeel_start_in(const tambuyeel_settings *settings, tambuyeel_state *state, const tambuyeel_room *room)

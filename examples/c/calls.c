@@ -59,6 +59,7 @@ static void reading(const tambuyeel_lent *l, const tambuyeel_column *c)
 {
     tambuyeel_bytes b = { NULL, 0 };
     tambuyeel_verdict v;
+    tambuyeel_marks m;
     size_t n = 0;
     v = tambuyeel_prefix_in(l, c, 1, 2, &b);
     say_bytes("prefix 2", v, b);
@@ -76,6 +77,12 @@ static void reading(const tambuyeel_lent *l, const tambuyeel_column *c)
     say_number("nulls past the end", v, n);
     v = tambuyeel_total_bytes_len_in(l, c, &n);
     say_number("total bytes", v, n);
+    v = tambuyeel_mark_in(l, c, 1, &n);
+    say_number("mark, row 1", v, n);
+    v = tambuyeel_mark_in(l, c, 9, &n);
+    say_number("mark, row 9", v, n);
+    v = tambuyeel_count_marks_in(l, c, &m);
+    printf("marks: %d, nulls %d, others %d, codes %d, dates %d\n", (int)v.refused, (int)m.nulls, (int)m.others, (int)m.codes, (int)m.dates);
 }
 
 static void building(tambuyeel_state *s, const tambuyeel_room *r, tambuyeel_column *c)

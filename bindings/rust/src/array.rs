@@ -1,7 +1,7 @@
 //! A column that owns its buffers.
 
 use crate::ffi::{self, Lent, Room};
-use crate::{accepted, Buffers, ByteViewBuilder, ByteViewColumn, Error, Iter, Kind, MAX_BLOCKS, MAX_BYTES, MAX_ROWS, VIEW_SIZE};
+use crate::{accepted, Buffers, ByteViewBuilder, ByteViewColumn, Error, Iter, Kind, Mark, Marks, MAX_BLOCKS, MAX_BYTES, MAX_ROWS, VIEW_SIZE};
 use std::cmp::Ordering;
 use std::fmt;
 
@@ -149,6 +149,8 @@ impl ByteViewArray {
         total_bytes_len() -> Result<usize, Error>;
         total_buffer_bytes_used() -> Result<usize, Error>;
         check() -> Result<(), Error>;
+        mark(row: usize) -> Result<Mark, Error>;
+        count_marks() -> Result<Marks, Error>;
         compare['b](i: usize, that: impl Into<ByteViewColumn<'b>>, j: usize) -> Result<Ordering, Error>;
         same_column['b](that: impl Into<ByteViewColumn<'b>>) -> Result<bool, Error>;
         iter() -> Iter<'_>;

@@ -1,7 +1,7 @@
 //! A column borrowed from slices.
 
 use crate::ffi::{self, Counted, Lent, Place};
-use crate::{accepted, part, told, ByteViewArray, Error, Kind, Side, MAX_BLOCKS, MAX_BYTES, VIEW_SIZE};
+use crate::{accepted, part, told, ByteViewArray, Error, Kind, Mark, Marks, Side, MAX_BLOCKS, MAX_BYTES, VIEW_SIZE};
 use std::cmp::Ordering;
 use std::fmt;
 
@@ -363,6 +363,40 @@ impl<'a> ByteViewColumn<'a> {
     pub fn check(&self) -> Result<(), Error> {
         let answer = ffi::check(&self.lent);
         told(answer.number, answer.row)
+    }
+
+    /// A row's mark under the element code profile. Refused with 2, 3, 11, under a null too.
+    ///
+    /// ```
+    /// use tambuyeel::{ByteViewArray, Kind, Mark};
+    /// let column = ByteViewArray::try_from_iter(Kind::Binary, [Some("3MAR"), Some("32MAR"), Some("RO"), None])?;
+    /// let marks: Vec<_> = (0..4).map(|row| column.column().mark(row)).collect::<Result<_, _>>()?;
+    /// assert_eq!(marks, [Mark::Date, Mark::Code, Mark::Other, Mark::Null]);
+    /// # Ok::<(), tambuyeel::Error>(())
+    /// ```
+    pub fn mark(&self, row: usize) -> Result<Mark, Error> {
+        let answer = ffi::mark(&self.lent, row);
+        told(answer.refused, row)?;
+        Ok(match answer.number {
+            0 => Mark::Null,
+            1 => Mark::Other,
+            2 => Mark::Code,
+            _ => Mark::Date,
+        })
+    }
+
+    /// How many rows have each mark. Refused with 2, 11 (the lowest row whose view isn't reachable).
+    ///
+    /// ```
+    /// use tambuyeel::{ByteViewArray, Kind, Marks};
+    /// let column = ByteViewArray::try_from_iter(Kind::Binary, [Some("3MAR"), Some("32MAR"), Some("RO"), None])?;
+    /// assert_eq!(column.column().count_marks()?, Marks { nulls: 1, others: 1, codes: 1, dates: 1 });
+    /// # Ok::<(), tambuyeel::Error>(())
+    /// ```
+    pub fn count_marks(&self) -> Result<Marks, Error> {
+        let answer = ffi::count_marks(&self.lent);
+        told(answer.refused, answer.row)?;
+        Ok(Marks { nulls: answer.nulls, others: answer.others, codes: answer.codes, dates: answer.dates })
     }
 
     /// Row `i` against row `j` of another column by their bytes, null bits ignored. Refused with 2, 3, 11, on the left column first.

@@ -38,6 +38,17 @@ pub(crate) struct Run {
 
 #[repr(C)]
 #[derive(Clone, Copy)]
+pub(crate) struct Marks {
+    pub refused: u64,
+    pub row: usize,
+    pub nulls: usize,
+    pub others: usize,
+    pub codes: usize,
+    pub dates: usize,
+}
+
+#[repr(C)]
+#[derive(Clone, Copy)]
 pub(crate) struct Text {
     pub yes: u64,
     pub place: usize,
@@ -93,6 +104,8 @@ declared! {
     tambuyeel_total_bytes_len(LENT) -> Counted;
     tambuyeel_total_buffer_bytes_used(LENT) -> Counted;
     tambuyeel_check(LENT) -> Told;
+    tambuyeel_mark(LENT, usize) -> Counted;
+    tambuyeel_count_marks(LENT) -> Marks;
     tambuyeel_compare(LENT, usize, LENT, usize) -> u64;
     tambuyeel_same_column(LENT, LENT) -> Told;
     tambuyeel_make_view(*const u8, usize, u32, u32, *mut [u8; 16]) -> u64;
@@ -137,6 +150,8 @@ reading! {
     total_bytes_len = tambuyeel_total_bytes_len() -> Counted;
     total_buffer_bytes_used = tambuyeel_total_buffer_bytes_used() -> Counted;
     check = tambuyeel_check() -> Told;
+    mark = tambuyeel_mark(row) -> Counted;
+    count_marks = tambuyeel_count_marks() -> Marks;
 }
 
 pub(crate) fn compare(l: &Lent<'_>, i: usize, m: &Lent<'_>, j: usize) -> u64 {

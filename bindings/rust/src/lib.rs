@@ -62,6 +62,33 @@ pub enum Kind {
     String = 1,
 }
 
+/// What a row is under the element code profile: a code has 4 to 24 bytes from A to Z, 0 to 9 and hyphen, with no hyphen first, last or doubled.
+#[derive(Clone, Copy, Debug, PartialEq, Eq)]
+pub enum Mark {
+    /// A null row: neither a code nor not.
+    Null = 0,
+    /// No code.
+    Other = 1,
+    /// A code that no spreadsheet takes for a date.
+    Code = 2,
+    /// A code that a spreadsheet would take for a date: a day 1 to 31 in one or two digits, an optional hyphen, a month JAN to DEC, and optionally a hyphen and
+    /// two or four digits; or a month, an optional hyphen and a day; or two or three groups of digits joined by hyphens, each of one to four digits.
+    Date = 3,
+}
+
+/// How many rows have each [`Mark`].
+#[derive(Clone, Copy, Debug, Default, PartialEq, Eq)]
+pub struct Marks {
+    /// Null rows.
+    pub nulls: usize,
+    /// Rows that are no codes.
+    pub others: usize,
+    /// Codes that no spreadsheet takes for dates.
+    pub codes: usize,
+    /// Codes that a spreadsheet would take for dates.
+    pub dates: usize,
+}
+
 /// The view of a value that stands in `block` at `offset`; both are ignored where the value is short. Refused with 4.
 ///
 /// ```

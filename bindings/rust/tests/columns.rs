@@ -1,7 +1,7 @@
 //! Columns that are built, compacted, sliced and appended, against a plain list of values; the limits; damaged columns.
 
 use std::cmp::Ordering;
-use tambuyeel::{Buffers, ByteViewArray, ByteViewBuilder, ByteViewColumn, Error, Kind, Side, MAX_BYTES, MAX_ROWS};
+use tambuyeel::{Buffers, ByteViewArray, ByteViewBuilder, ByteViewColumn, Error, Kind, Mark, Marks, Side, MAX_BYTES, MAX_ROWS};
 
 /// A small generator: the next of a fixed sequence, below `n`.
 struct Random(u64);
@@ -208,7 +208,59 @@ fn damaged_columns_are_refused() {
             Err(e) if e.number() == Error::RANGE => assert!(bad.gc().is_ok()),
             Err(e) => assert_eq!(bad.gc().unwrap_err(), e),
         }
+        counts(bad);
         let _ = (bad.compare(random.below(50), &column, random.below(50)), bad.total_bytes_len(), bad.bytes_iter().count());
+    }
+}
+
+/// The counts are those of the rows' marks; refused, the lowest row that is refused is named.
+fn counts(column: ByteViewColumn) {
+    let mut counts = Marks::default();
+    for row in 0..column.len() {
+        match column.mark(row) {
+            Ok(Mark::Null) => counts.nulls += 1,
+            Ok(Mark::Other) => counts.others += 1,
+            Ok(Mark::Code) => counts.codes += 1,
+            Ok(Mark::Date) => counts.dates += 1,
+            Err(e) => return assert_eq!(column.count_marks().unwrap_err(), e),
+        }
+    }
+    assert_eq!(column.count_marks(), Ok(counts));
+}
+
+#[test]
+fn marks_of_codes() {
+    use Mark::{Code, Date, Null, Other};
+    let long = "RO-8040-03MAR-ABCDEFGHIJ";
+    let list = [
+        (Some("3MAR"), Date),
+        (Some("03-MAR-2019"), Date),
+        (Some("1234-1234-1234"), Date),
+        (Some("32MAR"), Code),
+        (Some("RO-8040-03MAR"), Code),
+        (Some(long), Code),
+        (Some("RO-8040-03MAR-ABCDEFGHIJK"), Other),
+        (Some("1-2"), Other),
+        (Some("RO--8040"), Other),
+        (Some("ro-8040"), Other),
+        (None, Null),
+        (Some("MAR-31"), Date),
+    ];
+    let column = ByteViewArray::try_from_iter(Kind::String, list.map(|(value, _)| value)).unwrap();
+    for (row, (value, mark)) in list.iter().enumerate() {
+        assert_eq!(column.mark(row), Ok(*mark), "{value:?}");
+    }
+    assert_eq!(column.count_marks(), Ok(Marks { nulls: 1, others: 4, codes: 3, dates: 4 }));
+    assert_eq!(column.slice(3, 8).unwrap().count_marks(), Ok(Marks { nulls: 1, others: 4, codes: 3, dates: 0 }));
+    assert_eq!(column.slice(12, 0).unwrap().count_marks(), Ok(Marks::default()));
+    assert_eq!(column.mark(12).unwrap_err().number(), Error::ROW);
+    // A null row's view has to be reachable, and nothing more is asked of it.
+    let views = [tambuyeel::make_view("3MAR", 0, 0).unwrap(), tambuyeel::make_view(long, 0, 0).unwrap()].concat();
+    for (bytes, marks) in [(long, Ok(Marks { nulls: 1, dates: 1, ..Marks::default() })), (&long[1..], Err((11, Some(1))))] {
+        let buffers = Buffers { views: &views, bytes: bytes.as_bytes(), starts: &[0], lens: &[bytes.len()], nulls: Some(&[0b01]) };
+        let column = ByteViewColumn::new(Kind::Binary, buffers);
+        assert_eq!(column.count_marks().map_err(|e| (e.number(), e.row())), marks);
+        assert_eq!(column.mark(1).map_err(|e| (e.number(), e.row())), marks.map(|_| Null));
     }
 }
 
@@ -240,6 +292,8 @@ fn refusals_say_row_and_side() {
     let told = |e: Error| (e.number(), e.row(), e.side());
     assert_eq!(told(bad.value(1).unwrap_err()), (11, Some(1), None));
     assert_eq!(told(bad.prefix(1, 0).unwrap_err()), (11, Some(1), None));
+    assert_eq!(told(bad.mark(1).unwrap_err()), (11, Some(1), None));
+    assert_eq!(told(bad.count_marks().unwrap_err()), (11, Some(1), None));
     assert_eq!(told(bad.compare(1, &good, 0).unwrap_err()), (11, Some(1), Some(Side::Left)));
     assert_eq!(told(good.compare(0, bad, 1).unwrap_err()), (11, Some(1), Some(Side::Right)));
     assert_eq!(told(good.compare(2, bad, 2).unwrap_err()), (3, None, Some(Side::Left)));
@@ -258,6 +312,8 @@ fn numbers_that_fit_nothing() {
     assert_eq!(column.iter().count(), 1);
     assert_eq!(column.bytes_iter().count(), 1);
     assert_eq!(column.gc().unwrap_err().number(), Error::NUMBERS);
+    assert_eq!(column.mark(0).unwrap_err().number(), Error::NUMBERS);
+    assert_eq!(column.count_marks().unwrap_err().number(), Error::NUMBERS);
     assert_eq!(column.slice(usize::MAX, usize::MAX).unwrap_err().number(), Error::NUMBERS);
     assert_eq!(ByteViewBuilder::new(Kind::Binary).append_array(column).unwrap_err().number(), Error::NUMBERS);
     let most = ByteViewArray::default().gc_with_max_buffer_size(1 << 31).unwrap_err();

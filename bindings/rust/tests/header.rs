@@ -1,6 +1,6 @@
 //! The C header says the same numbers and words as this crate.
 
-use tambuyeel::{Buffers, ByteViewColumn, Error, Kind};
+use tambuyeel::{Buffers, ByteViewColumn, Error, Kind, Mark};
 
 const HEADER: &str = include_str!("../../../include/tambuyeel.h");
 
@@ -35,6 +35,9 @@ fn numbers() {
     assert_eq!(constant("TAMBUYEEL_SHORT_MOST"), tambuyeel::MAX_INLINE_VIEW_LEN as u64);
     assert_eq!(constant("TAMBUYEEL_VIEW_SIZE"), tambuyeel::VIEW_SIZE as u64);
     assert_eq!(constant("TAMBUYEEL_STRING"), Kind::String as u64);
+    for (name, mark) in [("NULL", Mark::Null), ("OTHER", Mark::Other), ("CODE", Mark::Code), ("DATE", Mark::Date)] {
+        assert_eq!(constant(&format!("TAMBUYEEL_MARK_{name}")), mark as u64, "{name}");
+    }
 }
 
 #[test]

@@ -1,0 +1,5 @@
+include!("../shared/link.rs");
+
+fn main() {
+    link(&["mark_exports"]);
+}

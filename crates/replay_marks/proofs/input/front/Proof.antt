@@ -1,0 +1,18 @@
+-- `replay_marks::input::front` is safe and ends. Assumes nothing.
+use lib.ListN.{length-take}
+use native.Mathlib.Omega.{arith}
+use borrow.Author.Needs.{needs}
+use Rattle.replay_marks.proofs.input.front.Statement.{statement}
+use Rattle.replay_marks.proofs.input.front.Tie as tie
+
+returns : tie.Need-returns
+returns c = search needs
+
+slice-aggregate-result : tie.Need-slice-aggregate-result
+slice-aggregate-result c = simp length-take (omega arith)
+
+returns-2 : tie.Need-returns-2
+returns-2 c = search needs
+
+pub front-spec : {M : Type 1} → statement M
+front-spec = tie.close (tie.spec returns slice-aggregate-result returns-2)

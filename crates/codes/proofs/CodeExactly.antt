@@ -13,7 +13,7 @@ use Rattle.codes.specs.Recogniser.{isHyphen, isCodeByte, mayStand, parte
 use Rattle.codes.proofs.Laws.{both}
 
 -- a letter, a digit or a hyphen
-abbrev InCode : ℕ → Type 0
+abbrev pub InCode : ℕ → Type 0
 InCode b = (isLetter b ≡ true) ⊎ ((isDigit b ≡ true) ⊎ (b ≡ hyphenByte))
 
 pub either : (s t : Bool) → (s || t) ≡ true → (s ≡ true) ⊎ (t ≡ true)
@@ -27,7 +27,7 @@ or-yes false = refl
 -- ---- one byte: what may stand, as the grammar says it
 
 module _ (b : ℕ) where
-  byte-in : isCodeByte b ≡ true → InCode b
+  pub byte-in : isCodeByte b ≡ true → InCode b
   unfolding isCodeByte
   byte-in h = go (either (isHyphen b) (isLetter b || isDigit b) h)
     where
@@ -39,20 +39,20 @@ module _ (b : ℕ) where
       go (inl e) = inr (inr (eqb-true b 45 e))
       go (inr w) = word (either (isLetter b) (isDigit b) w)
 
-  in-byte : InCode b → isCodeByte b ≡ true
+  pub in-byte : InCode b → isCodeByte b ≡ true
   unfolding isCodeByte
   in-byte (inl l) = rw l (or-yes (isHyphen b))
   in-byte (inr (inl d)) = rw (d, or-yes (isLetter b)) (or-yes (isHyphen b))
   in-byte (inr (inr e)) = rw (eq-eqb b 45 e)
 
 module _ (after : Bool) (b : ℕ) where
-  stands-in : mayStand after b ≡ true → InCode b × (after ≡ true → b ≢ hyphenByte)
+  pub stands-in : mayStand after b ≡ true → InCode b × (after ≡ true → b ≢ hyphenByte)
   unfolding mayStand
   stands-in h =
       let f = both (isCodeByte b) (not (after && isHyphen b)) h in
       (byte-in b (f .0), λ a e. true≢false (sym (f .1) ∙ (λ i. not (a i && eq-eqb b 45 e i))))
 
-  in-stands : InCode b → (after ≡ true → b ≢ hyphenByte) → mayStand after b ≡ true
+  pub in-stands : InCode b → (after ≡ true → b ≢ hyphenByte) → mayStand after b ≡ true
   unfolding mayStand
   in-stands c f = rw (in-byte b c) (go after refl)
     where
@@ -62,11 +62,11 @@ module _ (after : Bool) (b : ℕ) where
 
 -- ---- a text of one byte or more; `after` where it may not begin with a hyphen
 
-record Parts (after : Bool) (x : List ℕ) : Type 0 where
-  from : (i : ℕ) → i < length x → InCode (getD x i 0)
-  first : after ≡ true → getD x 0 0 ≢ hyphenByte
-  last : getD x (length x - 1) 0 ≢ hyphenByte
-  doubled : (i : ℕ) → suc i < length x → getD x i 0 ≡ hyphenByte → getD x (suc i) 0 ≢ hyphenByte
+pub record Parts (after : Bool) (x : List ℕ) : Type 0 where
+  pub from : (i : ℕ) → i < length x → InCode (getD x i 0)
+  pub first : after ≡ true → getD x 0 0 ≢ hyphenByte
+  pub last : getD x (length x - 1) 0 ≢ hyphenByte
+  pub doubled : (i : ℕ) → suc i < length x → getD x i 0 ≡ hyphenByte → getD x (suc i) 0 ≢ hyphenByte
 
 all-cons : (P : ℕ → Type 0) (b : ℕ) (x : List ℕ) → P b → ((i : ℕ) → i < length x → P (getD x i 0)) → (i : ℕ) → i < length (b ∷ x) → P (getD (b ∷ x) i 0)
 all-cons P b x p f zero l = p
@@ -84,7 +84,7 @@ last-more b c y =
     let e : length (b ∷ c ∷ y) - 1 ≡ suc (length (c ∷ y) - 1) = omega arith in
     ap (λ (k : ℕ). getD (b ∷ c ∷ y) k 0) e
 
-parts-of : (after : Bool) (b : ℕ) (x : List ℕ) → parted after (b ∷ x) ≡ true → Parts after (b ∷ x)
+pub parts-of : (after : Bool) (b : ℕ) (x : List ℕ) → parted after (b ∷ x) ≡ true → Parts after (b ∷ x)
 unfolding parted
 parts-of after b [] h =
     let f = both (mayStand after b) (not (isHyphen b)) h in
@@ -106,7 +106,7 @@ parts-of after b (c ∷ y) h =
       doubled = single-cons b c y (λ e. p .first (eq-eqb b 45 e)) (p .doubled);
     }
 
-of-parts : (after : Bool) (b : ℕ) (x : List ℕ) → Parts after (b ∷ x) → parted after (b ∷ x) ≡ true
+pub of-parts : (after : Bool) (b : ℕ) (x : List ℕ) → Parts after (b ∷ x) → parted after (b ∷ x) ≡ true
 unfolding parted
 of-parts after b [] p = rw (in-stands after b (p .from 0 (omega arith)) (p .first), ne-eqb b 45 (p .last))
 of-parts after b (c ∷ y) p =

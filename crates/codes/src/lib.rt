@@ -2,11 +2,12 @@
 ghost use mathlib.Core.Path.{_≡_};
 ghost use mathlib.Core.Bool.{true};
 ghost use mathlib.Core.List.{[], _∷_};
-ghost use Prim.Native.Nat.{_≤_};
+ghost use Prim.Native.Nat.{_+_, _≤_};
 ghost use lib.ListN.{length, drop, take};
 ghost use Rattle.codes.specs.Grammar.{isDigit, numberAfter};
 ghost use Rattle.codes.specs.Recogniser as spec;
 ghost use Rattle.codes.specs.Recogniser.{isCodeByte, mayStand, parted, isDay, isMonth, isYear, isMonthYear, isDayMonth, isMonthDay, isGroup, groupsFollow, isGroups};
+ghost use Rattle.codes.specs.Windows.{windowOk};
 ghost use Rattle.codes.specs.MonthWords.{isMonthWord};
 ghost use Rattle.codes.specs.Marks.{markOf, markNumber};
 
@@ -84,6 +85,54 @@ fn is_parted(s: &[u8]) -> bool
     !after
 }
 
+// The high bit of each of eight bytes.
+const HIGH: u64 = 0x8080808080808080;
+
+// Nine bytes from i on as eight pairs of neighbours, all at once: eight lanes to a word, and the high bit of a lane says yes. Where no byte is above 127
+// no lane passes its eight bits.
+fn window(s: &[u8], i: usize) -> bool
+    requires { ⌜ i + 9 ≤ length (now s) ⌝ }
+    ensures { λ r. ⌜ r ≡ windowOk (now (s .entry)) i ⌝ }
+{
+    let w = words::le64(s, i);
+    let v = words::le64(s, i + 1);
+    if w & HIGH != 0 {
+        return false;
+    }
+    if v & HIGH != 0 {
+        return false;
+    }
+    let letters = (w + 0x3f3f3f3f3f3f3f3f) & ((w + 0x2525252525252525) ^ HIGH);
+    let digits = (w + 0x5050505050505050) & ((w + 0x4646464646464646) ^ HIGH);
+    let others = (w ^ 0x2d2d2d2d2d2d2d2d) + 0x7f7f7f7f7f7f7f7f;
+    let next = ((v ^ 0x2d2d2d2d2d2d2d2d) + 0x7f7f7f7f7f7f7f7f) & HIGH;
+    ((letters | digits) | (others ^ HIGH)) & (others | next) & HIGH == HIGH
+}
+
+// The same as `is_parted` of nine bytes and more: the pairs from byte 0 on, those from byte 8 on where there are so many, and those up to the last byte.
+fn is_parted_long(s: &[u8]) -> bool
+    requires { ⌜ (9 ≤ length (now s)) × (length (now s) ≤ 24) ⌝ }
+    ensures { λ r. ⌜ r ≡ parted true (now (s .entry)) ⌝ }
+{
+    let n = s.len();
+    if s[0] == 45 {
+        return false;
+    }
+    if !may_stand(true, s[n - 1]) {
+        return false;
+    }
+    if !window(s, 0) {
+        return false;
+    }
+    if n <= 17 {
+        return window(s, n - 9);
+    }
+    if !window(s, 8) {
+        return false;
+    }
+    window(s, n - 9)
+}
+
 // Does a value conform to the profile?
 pub fn conforms(s: &[u8]) -> bool
     ensures { λ r. ⌜ r ≡ spec.conforms (now (s .entry)) ⌝ }
@@ -94,7 +143,10 @@ pub fn conforms(s: &[u8]) -> bool
     if 24 < s.len() {
         return false;
     }
-    is_parted(s)
+    if s.len() < 9 {
+        return is_parted(s);
+    }
+    is_parted_long(s)
 }
 
 // The first n bytes, and the others.

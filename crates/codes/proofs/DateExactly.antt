@@ -14,7 +14,7 @@ use Rattle.order.specs.Order.{same}
 use Rattle.order.specs.OrderLaws.{same-yes, same-true}
 use Rattle.codes.specs.Grammar.{isLetter, isDigit, Texts, _then_, optional, Digits, Day, numberAfter, hyphen, months, OneOf, month, twoOrFourDigits, group, date}
 use Rattle.codes.specs.Recogniser.{isHyphen, leading, afterDigits, pastHyphen, isDigits, isDay, isOneOf, isMonth, isYear, isMonthYear, isDayMonth, isMonthDay, isGroup, groupsFollow, isGroups, isDate}
-use Rattle.codes.proofs.Laws.{both, digits-yes, leading-all, leading-low, digit-low}
+use Rattle.codes.proofs.Laws.{both, front-digits, digits-yes, leading-all, leading-low, digit-low}
 use Rattle.codes.proofs.CodeExactly.{either, or-yes}
 
 -- ---- digits
@@ -39,17 +39,6 @@ module _ (lo hi : ℕ) (x : List ℕ) where
 
   digits-is : Digits lo hi x → isDigits lo hi x ≡ true
   digits-is d = digits-yes lo hi x (d .least) (d .most) (all-digits x (d .all))
-
--- the digits that a text begins with are digits alone
-front-digits : (x : List ℕ) → leading (take (leading x) x) ≡ length (take (leading x) x)
-unfolding leading
-front-digits [] = refl
-front-digits (b ∷ x) = go (isDigit b) refl (front-digits x)
-  where
-    go : (t : Bool) → isDigit b ≡ t → leading (take (leading x) x) ≡ length (take (leading x) x)
-        → leading (take (pick t (suc (leading x)) 0) (b ∷ x)) ≡ length (take (pick t (suc (leading x)) 0) (b ∷ x))
-    go true e h = rw e (ap suc h)
-    go false e h = refl
 
 -- digits, and then no digit
 front-leads : (u v : List ℕ) → leading u ≡ length u → leading v ≡ 0 → leading (u ++ v) ≡ length u

@@ -11,7 +11,7 @@ use lib.Dec.{T, leb, eqb}
 use types.Run.{OneOf, hit}
 use mir.Val.{hasKey}
 use lib.ListN.{length, getD, take, drop, length-take, length-drop, drop-of-length-le}
-use lib.Seq.{drop-cons, drop-drop}
+use lib.Seq.{drop-cons, drop-drop, length-take-le, getD-take}
 use Rattle.basis.specs.Pick.{pick}
 use Rattle.order.specs.Order.{same}
 use Rattle.order.specs.OrderLaws.{same-is, same-no}
@@ -178,6 +178,17 @@ leading-low (b ∷ x) = go (isDigit b) (leading-low x)
     go true h = omega arith
     go false h = omega arith
 
+-- the digits that a text begins with are digits alone
+pub front-digits : (x : List ℕ) → leading (take (leading x) x) ≡ length (take (leading x) x)
+unfolding leading
+front-digits [] = refl
+front-digits (b ∷ x) = go (isDigit b) refl (front-digits x)
+  where
+    go : (t : Bool) → isDigit b ≡ t → leading (take (leading x) x) ≡ length (take (leading x) x)
+        → leading (take (pick t (suc (leading x)) 0) (b ∷ x)) ≡ length (take (pick t (suc (leading x)) 0) (b ∷ x))
+    go true e h = rw e (ap suc h)
+    go false e h = refl
+
 -- where all are digits, the first is one and the others are all digits
 pub leading-all : (b : ℕ) (x : List ℕ) → leading (b ∷ x) ≡ suc (length x) → (isDigit b ≡ true) × (leading x ≡ length x)
 unfolding leading
@@ -243,6 +254,40 @@ module _ (x : List ℕ) (e : leading x ≡ length x) (h : length x ≡ 2) (n : �
 
   pub day-some : (n ≡ 0 → ⊥) → leb n 31 ≡ isDay x
   day-some z = rw (day-pair x e h, ← m, le-leb 1 n (omega arith))
+
+-- the same of the digits that a text begins with
+module _ (x : List ℕ) (d : ℕ) (l : d ≡ leading x) (h : d ≤ length x) where
+  front-all : leading (take d x) ≡ length (take d x)
+  front-all = rw l (front-digits x)
+
+  front-long : length (take d x) ≡ d
+  front-long = length-take-le d x h
+
+  pub front-none : (d ≡ 1 → ⊥) → (d ≡ 2 → ⊥) → false ≡ isDay (take d x)
+  front-none p q = day-none (take d x) (λ e. p (sym front-long ∙ e)) (λ e. q (sym front-long ∙ e))
+
+  pub front-one : d ≡ 1 → not (eqb (getD x 0 0) 48) ≡ isDay (take d x)
+  front-one e = ap (λ (b : ℕ). not (eqb b 48)) (sym (getD-take d x 0 0 (omega arith))) ∙ day-one (take d x) front-all (front-long ∙ e)
+
+  module _ (e : d ≡ 2) where
+    first : getD (take d x) 0 0 ≡ getD x 0 0
+    first = getD-take d x 0 0 (omega arith)
+
+    second : getD (take d x) 1 0 ≡ getD x 1 0
+    second = getD-take d x 1 0 (omega arith)
+
+    pub front-two : (48 ≤ getD x 0 0) × (48 ≤ getD x 1 0)
+    front-two = rw (first, second) at (day-two (take d x) front-all (front-long ∙ e))
+
+    module _ (n : ℕ) (m : n ≡ numberAfter 0 (getD x 0 0 ∷ getD x 1 0 ∷ [])) where
+      said : n ≡ numberAfter 0 (getD (take d x) 0 0 ∷ getD (take d x) 1 0 ∷ [])
+      said = rw (first, second) m
+
+      pub front-zero : n ≡ 0 → false ≡ isDay (take d x)
+      front-zero = day-zero (take d x) front-all (front-long ∙ e) n said
+
+      pub front-some : (n ≡ 0 → ⊥) → leb n 31 ≡ isDay (take d x)
+      front-some = day-some (take d x) front-all (front-long ∙ e) n said
 
 -- ---- a month
 

@@ -199,14 +199,11 @@ fn two_digits(a: u8, b: u8) -> usize
     (a - 48) as usize * 10 + (b - 48) as usize
 }
 
-// A day: 1 to 31 in one or two digits.
-fn is_day(s: &[u8]) -> bool
-    ensures { λ r. ⌜ r ≡ isDay (now (s .entry)) ⌝ }
+// Are the d digits that a text begins with a day: 1 to 31 in one or two digits?
+fn begins_with_day(s: &[u8], d: usize) -> bool
+    requires { ⌜ (d ≡ spec.leading (now s)) × (d ≤ length (now s)) ⌝ }
+    ensures { λ r. ⌜ r ≡ isDay (take d (now (s .entry))) ⌝ }
 {
-    let d = leading(s);
-    if d != s.len() {
-        return false;
-    }
     if d == 1 {
         return s[0] != 48;
     }
@@ -218,6 +215,17 @@ fn is_day(s: &[u8]) -> bool
         return false;
     }
     n <= 31
+}
+
+// A day, and nothing else.
+fn is_day(s: &[u8]) -> bool
+    ensures { λ r. ⌜ r ≡ isDay (now (s .entry)) ⌝ }
+{
+    let d = leading(s);
+    if d != s.len() {
+        return false;
+    }
+    begins_with_day(s, d)
 }
 
 fn is_month_word(w: usize) -> bool
@@ -305,7 +313,7 @@ fn is_day_month(s: &[u8], d: usize) -> bool
     requires { ⌜ (d ≡ spec.leading (now s)) × (d ≤ length (now s)) ⌝ }
     ensures { λ r. ⌜ r ≡ isDayMonth (now (s .entry)) ⌝ }
 {
-    if !is_day(front(s, d)) {
+    if !begins_with_day(s, d) {
         return false;
     }
     is_month_year(past_hyphen(back(s, d)))

@@ -1,23 +1,19 @@
 -- `codes::is_day_month` meets its contract. Assumes nothing.
+use mathlib.Core.Path.{sym, _∙_, ap}
 use Rattle.codes.proofs.Laws.{day-month-no, day-month-yes}
-use Rattle.codes.specs.Recogniser.{isMonthYear, isDay, pastHyphen}
+use Rattle.codes.specs.Recogniser.{isMonthYear, pastHyphen}
 use Prim.Native.Nat.{ℕ}
 use mathlib.Core.List.{List}
 use borrow.Author.Tests.{not-true, not-false}
-use mathlib.Core.Path.{sym, _∙_, ap}
 use borrow.Author.Needs.{needs}
 use Rattle.codes.proofs.is_day_month.Statement.{statement}
 use Rattle.codes.proofs.is_day_month.Tie as tie
 
-front-requires : tie.Need-front-requires
-front-requires c κs = search needs
-
-is-day-requires : tie.Need-is-day-requires
-is-day-requires c κs = search needs
+begins-with-day-requires : tie.Need-begins-with-day-requires
+begins-with-day-requires c κs = c .before .pre
 
 returns : tie.Need-returns
-returns c = day-month-no _ _ (c .before .before .before .before .pre .0)
-    (sym (c .before .is-day .ensures ∙ ap isDay (c .before .before .front .ensures)) ∙ not-true _ (c .if1 .taken))
+returns c = day-month-no _ _ (c .before .before .before .pre .0) (sym (c .before .begins-with-day .ensures) ∙ not-true _ (c .if1 .taken))
 
 back-requires : tie.Need-back-requires
 back-requires c κs = search needs
@@ -29,9 +25,8 @@ is-month-year-requires : tie.Need-is-month-year-requires
 is-month-year-requires c κs = search needs
 
 returns-2 : tie.Need-returns-2
-returns-2 c = day-month-yes _ _ (c .before .before .before .before .before .before .before .pre .0) _
-    (sym (c .before .before .before .before .is-day .ensures ∙ ap isDay (c .before .before .before .before .before .front .ensures)) ∙ not-false _
-    (c .before .before .before .if1 .left))
+returns-2 c = day-month-yes _ _ (c .before .before .before .before .before .before .pre .0) _
+    (sym (c .before .before .before .before .begins-with-day .ensures) ∙ not-false _ (c .before .before .before .if1 .left))
     (c .is-month-year .ensures ∙
     (ap isMonthYear (c .before .past-hyphen .ensures) ∙ ap (λ (x : List ℕ). isMonthYear (pastHyphen x)) (c .before .before .back .ensures)))
 
@@ -39,8 +34,7 @@ pub is-day-month-spec : {M : Type 1} → statement M
 is-day-month-spec =
     tie.close
     (tie.spec
-    front-requires
-    is-day-requires
+    begins-with-day-requires
     returns
     back-requires
     past-hyphen-requires

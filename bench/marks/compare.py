@@ -4,8 +4,9 @@
     compare.py [MOST [COUNT [SEED]]]     strings of up to MOST bytes (5), COUNT random ones (200,000)
 
 Every string over two alphabets: digits that begin and end days, a letter in no month or of other months, the letters of two months, the hyphen. Every day 0 to 99
-in one and two digits with every month, hyphens and years. Random codes, dates and groups of up to 27 bytes, whole, damaged and null. Ends with `wrong=` and a
-count, and fails where that isn't 0."""
+in one and two digits with every month, hyphens and years. Every day 1 to 31 with every year of two and four digits: of all months where MOST is above five, else
+of one. Every byte at every place of a code, and hyphens at every two places, for every length up to 26. Random codes, dates and groups of up to 27 bytes, whole,
+damaged and null. Ends with `wrong=` and a count, and fails where that isn't 0."""
 import itertools
 import pathlib
 import random
@@ -42,6 +43,25 @@ def days():
                 for year in years:
                     yield day + join + month + year
                     yield month + join + day + year
+
+
+def years(month):
+    """Every day 1 to 31 in one and two digits, with and without its hyphen, and every year of two and four digits."""
+    ends = [*(b'-%02d' % y for y in range(100)), *(b'-%04d' % y for y in range(10000))]
+    for day in [*(b'%d' % d for d in range(1, 32)), *(b'%02d' % d for d in range(1, 10))]:
+        for join in (b'', b'-'):
+            for end in ends:
+                yield day + join + month + end
+
+
+def spots():
+    """Every byte at every place of a code, and hyphens at every two places."""
+    for n in range(1, 27):
+        for at in range(n):
+            for b in range(256):
+                yield b'K' * at + bytes([b]) + b'K' * (n - at - 1)
+            for to in range(at + 1, n):
+                yield b'7' * at + b'-' + b'7' * (to - at - 1) + b'-' + b'7' * (n - to - 1)
 
 
 def some(r, count):
@@ -112,6 +132,9 @@ def main():
     most, count, seed = [*map(int, sys.argv[1:]), *(5, 200000, 3)[len(sys.argv) - 1:]]
     wrong = sum(all_of(alphabet, most) for alphabet in ALPHABETS)
     wrong += list_of('days, months and years', days())
+    for month in MONTHS if most > 5 else MONTHS[2:3]:
+        wrong += list_of(f'every day and year of {month.decode()}', years(month))
+    wrong += list_of('every byte at every place', spots())
     wrong += list_of('random rows', some(random.Random(seed), count))
     print(f'wrong={wrong}')
     sys.exit(wrong != 0)

@@ -2,8 +2,6 @@
 // of each row that is asked for and how many rows have each mark. Columns and rows are asked for twice, the second time over a table of records.
 // Writes how many texts there were, how many of these are no codes, codes and dates, how many columns and rows were asked for, how many answers are others than
 // the lists', the first of those, and whether a list ended inside a record.
-mod input;
-
 use column::Column;
 use libc::STDOUT_FILENO;
 use marks::Marked;
@@ -107,28 +105,28 @@ fn text(fd: i32, t: Tally) -> Tally {
     if got < 16 {
         return end(t, true);
     }
-    let n = input::word(&head, 0);
-    let want = input::word(&head, 1);
+    let n = lists::word(&head, 0);
+    let want = lists::word(&head, 1);
     if MOST < n {
         return end(t, true);
     }
     let mut body = [0u8; 64];
-    if !input::fill(fd, &mut body, n) {
+    if !lists::fill(fd, &mut body, n) {
         return end(t, true);
     }
-    let mark = codes::number_of(codes::mark_of(input::front(&body, n)));
+    let mark = codes::number_of(codes::mark_of(lists::front(&body, n)));
     judged(t, want, false, false, mark == want)
 }
 
 // Whether a question's words 1 to 3 are these.
 fn is_said(q: &[u8; 32], refusal: usize, row: usize, mark: usize) -> bool {
-    if input::word(q, 1) != refusal {
+    if lists::word(q, 1) != refusal {
         return false;
     }
-    if input::word(q, 2) != row {
+    if lists::word(q, 2) != row {
         return false;
     }
-    input::word(q, 3) == mark
+    lists::word(q, 3) == mark
 }
 
 fn is_marked(q: &[u8; 32], m: Marked) -> bool {
@@ -148,22 +146,22 @@ fn is_counted(
     codes: usize,
     dates: usize,
 ) -> bool {
-    if input::word(head, 9) != refusal {
+    if lists::word(head, 9) != refusal {
         return false;
     }
-    if input::word(head, 10) != row {
+    if lists::word(head, 10) != row {
         return false;
     }
-    if input::word(head, 11) != nulls {
+    if lists::word(head, 11) != nulls {
         return false;
     }
-    if input::word(head, 12) != others {
+    if lists::word(head, 12) != others {
         return false;
     }
-    if input::word(head, 13) != codes {
+    if lists::word(head, 13) != codes {
         return false;
     }
-    input::word(head, 14) == dates
+    lists::word(head, 14) == dates
 }
 
 fn is_tallied(head: &[u8; 128], t: Tallied) -> bool {
@@ -185,8 +183,8 @@ fn row_right<'a>(
     nulls: &'a [u8],
     c: Column,
 ) -> bool {
-    let row = input::word(q, 0);
-    let n = input::records(starts, lens);
+    let row = lists::word(q, 0);
+    let n = lists::records(starts, lens);
     if through_records::MOST < n {
         return false;
     }
@@ -207,7 +205,7 @@ fn counts_right<'a>(
     nulls: &'a [u8],
     c: Column,
 ) -> bool {
-    let n = input::records(starts, lens);
+    let n = lists::records(starts, lens);
     if through_records::MOST < n {
         return false;
     }
@@ -261,7 +259,7 @@ fn asked<'a>(
 ) -> Tally {
     let right = counts_right(head, views, bytes, starts, lens, nulls, c);
     let t = judged(before, 0, true, false, right);
-    let n = input::word(head, 15) as u64;
+    let n = lists::word(head, 15) as u64;
     rows(fd, views, bytes, starts, lens, nulls, c, n, t)
 }
 
@@ -273,7 +271,7 @@ fn load(
     starts: &mut [usize],
     lens: &mut [usize],
     nulls: &mut [u8],
-    s: input::Shape,
+    s: lists::Shape,
 ) -> bool {
     if views.len() < s.views {
         return false;
@@ -290,21 +288,21 @@ fn load(
     if nulls.len() < s.nulls {
         return false;
     }
-    if !input::fill(fd, views, s.views) {
+    if !lists::fill(fd, views, s.views) {
         return false;
     }
-    if !input::fill(fd, bytes, s.bytes) {
+    if !lists::fill(fd, bytes, s.bytes) {
         return false;
     }
-    if !input::fill_table(fd, starts, lens, s.blocks) {
+    if !lists::fill_table(fd, starts, lens, s.blocks) {
         return false;
     }
-    input::fill(fd, nulls, s.nulls)
+    lists::fill(fd, nulls, s.nulls)
 }
 
 // The next column: its head has been read.
 fn column(fd: i32, head: &[u8; 128], t: Tally) -> Tally {
-    let s = input::shape_at(head, 0);
+    let s = lists::shape_at(head, 0);
     let c = s.column;
     let mut views = [0u8; 1024];
     let mut bytes = [0u8; 1024];
@@ -325,11 +323,11 @@ fn column(fd: i32, head: &[u8; 128], t: Tally) -> Tally {
     asked(
         fd,
         head,
-        input::front(&views, s.views),
-        input::front(&bytes, s.bytes),
-        input::front_numbers(&starts, s.blocks),
-        input::front_numbers(&lens, s.blocks),
-        input::front(&nulls, s.nulls),
+        lists::front(&views, s.views),
+        lists::front(&bytes, s.bytes),
+        lists::front_numbers(&starts, s.blocks),
+        lists::front_numbers(&lens, s.blocks),
+        lists::front(&nulls, s.nulls),
         c,
         t,
     )

@@ -24,9 +24,9 @@ struct Tally {
 
 // Whether a part has the bytes that the list names: word 7 says of which slice, 8 where it begins, 9 its length.
 fn part_is(got: &[u8], views: &[u8], bytes: &[u8], q: &[u8; 80]) -> bool {
-    let which = input::word(q, 7);
-    let at = input::word(q, 8);
-    let n = input::word(q, 9);
+    let which = lists::word(q, 7);
+    let at = lists::word(q, 8);
+    let n = lists::word(q, 9);
     if got.len() != n {
         return false;
     }
@@ -66,9 +66,9 @@ fn cut<'a>(from: &'a [u8], at: usize, n: usize) -> &'a [u8] {
 
 // The part that the list names.
 fn part_of<'a>(views: &'a [u8], bytes: &'a [u8], q: &[u8; 80]) -> &'a [u8] {
-    let at = input::word(q, 8);
-    let n = input::word(q, 9);
-    if input::word(q, 7) == 1 {
+    let at = lists::word(q, 8);
+    let n = lists::word(q, 9);
+    if lists::word(q, 7) == 1 {
         return cut(views, at, n);
     }
     cut(bytes, at, n)
@@ -76,8 +76,8 @@ fn part_of<'a>(views: &'a [u8], bytes: &'a [u8], q: &[u8; 80]) -> &'a [u8] {
 
 // The length of what the list names in one of the buffers: nothing of the other one.
 fn span(which: usize, q: &[u8; 80]) -> usize {
-    if input::word(q, 7) == which {
-        return input::word(q, 9);
+    if lists::word(q, 7) == which {
+        return lists::word(q, 9);
     }
     0
 }
@@ -92,10 +92,10 @@ fn ask_part<'a>(
     c: Column,
     q: &[u8; 80],
 ) -> Said {
-    let call = input::word(q, 0);
-    let row = input::word(q, 1);
-    let n = input::word(q, 2);
-    let size = input::word(q, 9);
+    let call = lists::word(q, 0);
+    let row = lists::word(q, 1);
+    let n = lists::word(q, 2);
+    let size = lists::word(q, 9);
     let why = reading::why_value(views, bytes, starts, lens, nulls, c, row);
     if call == 1 {
         let got = reading::value(views, bytes, starts, lens, nulls, c, row);
@@ -127,9 +127,9 @@ fn ask_number<'a>(
     c: Column,
     q: &[u8; 80],
 ) -> Said {
-    let call = input::word(q, 0);
-    let a = input::word(q, 1);
-    let b = input::word(q, 2);
+    let call = lists::word(q, 0);
+    let a = lists::word(q, 1);
+    let b = lists::word(q, 2);
     match call {
         4 => said::of_number(reading::length(views, bytes, starts, lens, nulls, c, a)),
         5 => said::of_bit(reading::null_bit(views, bytes, starts, lens, nulls, c, a)),
@@ -150,12 +150,12 @@ fn ask_number<'a>(
 
 // Which of two columns is refused: with 11 the list says it, with 2 it is the left one unless that fits, with 3 unless it has the row.
 fn side_of(fits: bool, rows: usize, q: &[u8; 80]) -> usize {
-    let refusal = input::word(q, 3);
+    let refusal = lists::word(q, 3);
     match refusal {
         0 => 0,
         2 => if fits { 2 } else { 1 },
-        3 => if input::word(q, 1) < rows { 2 } else { 1 },
-        _ => input::word(q, 5),
+        3 => if lists::word(q, 1) < rows { 2 } else { 1 },
+        _ => lists::word(q, 5),
     }
 }
 
@@ -167,16 +167,16 @@ fn agrees_on_side(s: Said, side: usize, q: &[u8; 80]) -> bool {
 }
 
 fn agrees(s: Said, q: &[u8; 80]) -> bool {
-    if s.refusal != input::word(q, 3) {
+    if s.refusal != lists::word(q, 3) {
         return false;
     }
-    if s.row != input::word(q, 4) {
+    if s.row != lists::word(q, 4) {
         return false;
     }
-    if s.number != input::word(q, 6) {
+    if s.number != lists::word(q, 6) {
         return false;
     }
-    if s.size != input::word(q, 9) {
+    if s.size != lists::word(q, 9) {
         return false;
     }
     s.part
@@ -194,11 +194,11 @@ fn ask_place<'a>(
 ) -> bool {
     let mut v = [0u8; 1024];
     let mut d = [0u8; 1024];
-    let at = input::word(q, 8);
+    let at = lists::word(q, 8);
     input::changed(views, &mut v, at, span(1, q));
     input::changed(bytes, &mut d, at, span(2, q));
-    let views2 = input::front(&v, views.len());
-    let bytes2 = input::front(&d, bytes.len());
+    let views2 = lists::front(&v, views.len());
+    let bytes2 = lists::front(&d, bytes.len());
     if !agrees(ask_part(views2, bytes2, starts, lens, nulls, c, q), q) {
         return false;
     }
@@ -215,11 +215,11 @@ fn through_value<'a>(
     c: Column,
     q: &[u8; 80],
 ) -> bool {
-    let n = input::records(starts, lens);
+    let n = lists::records(starts, lens);
     if through_records::MOST < n {
         return false;
     }
-    let row = input::word(q, 1);
+    let row = lists::word(q, 1);
     let want = part_of(views, bytes, q);
     let why = through_records::why_value(starts, lens, n, views, bytes, nulls, c, row);
     let same = through_records::value_is(starts, lens, n, views, bytes, nulls, c, row, want);
@@ -236,7 +236,7 @@ fn through_check<'a>(
     c: Column,
     q: &[u8; 80],
 ) -> bool {
-    let n = input::records(starts, lens);
+    let n = lists::records(starts, lens);
     if through_records::MOST < n {
         return false;
     }
@@ -254,10 +254,10 @@ fn through_check<'a>(
 
 // Whether the list says here that a column is valid.
 fn finds_valid(q: &[u8; 80]) -> bool {
-    if input::word(q, 0) != 11 {
+    if lists::word(q, 0) != 11 {
         return false;
     }
-    input::word(q, 3) == 0
+    lists::word(q, 3) == 0
 }
 
 // Call 13 over a table of records: the walk, set to a row, and a step of it.
@@ -270,11 +270,11 @@ fn through_step<'a>(
     c: Column,
     q: &[u8; 80],
 ) -> bool {
-    let n = input::records(starts, lens);
+    let n = lists::records(starts, lens);
     if through_records::MOST < n {
         return false;
     }
-    let row = input::word(q, 1);
+    let row = lists::word(q, 1);
     let want = part_of(views, bytes, q);
     let g = through_walks::walk_at(starts, lens, n, views, bytes, nulls, c, row, want);
     let why = g.why;
@@ -311,7 +311,7 @@ fn through_walk<'a>(
     nulls: &'a [u8],
     c: Column,
 ) -> bool {
-    let n = input::records(starts, lens);
+    let n = lists::records(starts, lens);
     if through_records::MOST < n {
         return false;
     }
@@ -347,16 +347,16 @@ fn through_compare<'a>(
     side: usize,
     q: &[u8; 80],
 ) -> bool {
-    let n = input::records(starts, lens);
-    let m = input::records(starts2, lens2);
+    let n = lists::records(starts, lens);
+    let m = lists::records(starts2, lens2);
     if through_records::MOST < n {
         return false;
     }
     if through_records::MOST < m {
         return false;
     }
-    let i = input::word(q, 1);
-    let j = input::word(q, 2);
+    let i = lists::word(q, 1);
+    let j = lists::word(q, 2);
     let got = through_records::compare(
         starts,
         lens,
@@ -388,7 +388,7 @@ fn ask_through<'a>(
     c: Column,
     q: &[u8; 80],
 ) -> bool {
-    let call = input::word(q, 0);
+    let call = lists::word(q, 0);
     match call {
         1 => through_value(views, bytes, starts, lens, nulls, c, q),
         11 => through_check(views, bytes, starts, lens, nulls, c, q),
@@ -407,7 +407,7 @@ fn ask_one<'a>(
     c: Column,
     q: &[u8; 80],
 ) -> bool {
-    let call = input::word(q, 0);
+    let call = lists::word(q, 0);
     if !ask_through(views, bytes, starts, lens, nulls, c, q) {
         return false;
     }
@@ -439,8 +439,8 @@ fn ask_compare<'a>(
     side: usize,
     q: &[u8; 80],
 ) -> bool {
-    let a = input::word(q, 1);
-    let b = input::word(q, 2);
+    let a = lists::word(q, 1);
+    let b = lists::word(q, 2);
     let got = comparison::compare(
         views,
         bytes,
@@ -494,7 +494,7 @@ fn ask<'a>(
     d: Column,
     q: &[u8; 80],
 ) -> bool {
-    let call = input::word(q, 0);
+    let call = lists::word(q, 0);
     let rows = c.rows;
     let side = side_of(column::fits(views, bytes, starts, lens, nulls, c), rows, q);
     match call {
@@ -553,7 +553,7 @@ fn over_records(call: usize) -> bool {
 }
 
 fn counted(t: Tally, q: &[u8; 80], right: bool) -> Tally {
-    let call = input::word(q, 0);
+    let call = lists::word(q, 0);
     let questions = more(t.questions);
     Tally {
         groups: t.groups,
@@ -653,7 +653,7 @@ fn load(
     starts: &mut [usize],
     lens: &mut [usize],
     nulls: &mut [u8],
-    s: input::Shape,
+    s: lists::Shape,
 ) -> bool {
     if views.len() < s.views {
         return false;
@@ -670,16 +670,16 @@ fn load(
     if nulls.len() < s.nulls {
         return false;
     }
-    if !input::fill(fd, views, s.views) {
+    if !lists::fill(fd, views, s.views) {
         return false;
     }
-    if !input::fill(fd, bytes, s.bytes) {
+    if !lists::fill(fd, bytes, s.bytes) {
         return false;
     }
-    if !input::fill_table(fd, starts, lens, s.blocks) {
+    if !lists::fill_table(fd, starts, lens, s.blocks) {
         return false;
     }
-    input::fill(fd, nulls, s.nulls)
+    lists::fill(fd, nulls, s.nulls)
 }
 
 // The questions of a group whose buffers are filled.
@@ -690,13 +690,13 @@ fn asked<'a>(
     starts: &[usize],
     lens: &[usize],
     nulls: &'a [u8],
-    a: input::Shape,
+    a: lists::Shape,
     views2: &'a [u8],
     bytes2: &'a [u8],
     starts2: &[usize],
     lens2: &[usize],
     nulls2: &'a [u8],
-    b: input::Shape,
+    b: lists::Shape,
     n: u64,
     t: Tally,
 ) -> Tally {
@@ -704,17 +704,17 @@ fn asked<'a>(
     let d = b.column;
     questions(
         fd,
-        input::front(views, a.views),
-        input::front(bytes, a.bytes),
-        input::front_numbers(starts, a.blocks),
-        input::front_numbers(lens, a.blocks),
-        input::front(nulls, a.nulls),
+        lists::front(views, a.views),
+        lists::front(bytes, a.bytes),
+        lists::front_numbers(starts, a.blocks),
+        lists::front_numbers(lens, a.blocks),
+        lists::front(nulls, a.nulls),
         c,
-        input::front(views2, b.views),
-        input::front(bytes2, b.bytes),
-        input::front_numbers(starts2, b.blocks),
-        input::front_numbers(lens2, b.blocks),
-        input::front(nulls2, b.nulls),
+        lists::front(views2, b.views),
+        lists::front(bytes2, b.bytes),
+        lists::front_numbers(starts2, b.blocks),
+        lists::front_numbers(lens2, b.blocks),
+        lists::front(nulls2, b.nulls),
         d,
         n,
         t,
@@ -723,9 +723,9 @@ fn asked<'a>(
 
 // A group: its head has been read.
 fn group(fd: i32, head: &[u8; 160], t: Tally) -> Tally {
-    let n = input::word(head, 1);
-    let a = input::shape_at(head, 2);
-    let b = input::shape_at(head, 11);
+    let n = lists::word(head, 1);
+    let a = lists::shape_at(head, 2);
+    let b = lists::shape_at(head, 11);
     let mut views = [0u8; 1024];
     let mut bytes = [0u8; 1024];
     let mut starts = [0usize; 16];

@@ -1,10 +1,10 @@
--- `replay_marks::input::fill_table` is safe and ends. Assumes nothing.
+-- `lists::fill_table` is safe and ends. Assumes nothing.
 use borrow.Author.Needs.{needs}
 use mathlib.Core.Path.{_≡_}
 use Prim.Native.Nat.{_≤_, _-_}
 use lib.ListN.{length}
-use Rattle.replay_marks.proofs.input.fill_table.Statement.{statement}
-use Rattle.replay_marks.proofs.input.fill_table.Tie as tie
+use Rattle.lists.proofs.fill_table.Statement.{statement}
+use Rattle.lists.proofs.fill_table.Tie as tie
 
 abbrev Inv-loop : tie.InvT-loop
 Inv-loop fd starts₀ lens₀ n k₀ starts lens k = (k ≤ n) × (length starts ≡ length starts₀) × (length lens ≡ length lens₀)

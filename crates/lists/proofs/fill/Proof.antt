@@ -1,8 +1,9 @@
+-- `lists::fill` is safe and ends. Assumes nothing.
 use lib.ListN.{length-take}
 use native.Mathlib.Omega.{arith}
 use borrow.Author.Needs.{needs}
-use Rattle.replay_reading.proofs.input.fill.Statement.{statement}
-use Rattle.replay_reading.proofs.input.fill.Tie as tie
+use Rattle.lists.proofs.fill.Statement.{statement}
+use Rattle.lists.proofs.fill.Tie as tie
 
 slice-relend-prefix-read-full : tie.Need-slice-relend-prefix-read-full
 slice-relend-prefix-read-full c = search needs

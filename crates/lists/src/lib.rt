@@ -1,4 +1,4 @@
-// Words and buffers of the fixed lists.
+// Words and buffers of the fixed lists, as the programs that replay them read them. Instruments: their contracts say no more than that they are safe and end.
 use column::Column;
 use column::Kind;
 ghost use Prim.Native.Nat.{_+_, _*_, _≤_};

@@ -1,68 +1,24 @@
--- What growth does: its eight sizes, that it stays among them, and that each is one that a block may have. Assumes nothing.
-use Prim.Native.Nat.{ℕ, zero, suc, _+_, _-_, _*_, _^_, _≤_, _<_}
+-- What growth does: it takes the sheet's sizes in their order and stays on the sheet. A law about the start and the eight sizes is a test that computes at
+-- each of the nine. Assumes nothing.
+use Prim.Native.Nat.{ℕ, zero, suc, _≤_, _<_}
 use mathlib.Core.Path.{_≡_, refl, sym, ap, _∙_}
 use mathlib.Core.Bool.{Bool, true, false, true≢false, not, _||_, _&&_}
-use native.Mathlib.Nat.{add-suc, pow-suc}
 use native.Mathlib.Omega.{arith}
-use borrow.Author.Tests.{le-leb, lt-leb, eqb-true, eq-eqb, lt-ltb, le-ltb, leb-true, leb-false, ltb-true, ltb-false}
+use borrow.Author.Tests.{le-leb, lt-leb, eqb-true, eq-eqb, ltb-true, ltb-false}
 use lib.Dec.{eqb, ltb, leb}
-use lib.Pow.{pow-lt, pow-mono, pow-pos}
-use Rattle.bounds.specs.Bounds.{byteLimit, byte-limit-is}
+use lib.ListN.{getD}
+use Rattle.bounds.specs.Bounds.{byteLimit}
 use Rattle.bounds.specs.Refusals.{refuse}
 use Rattle.bounds.specs.declared.Why.the-variants.{Accepted, Refused}
 use Rattle.bounds.specs.declared.Refusal.the-variants.{Fit}
+use Rattle.growth.specs.declared.Step.{Step}
 use Rattle.growth.specs.declared.Growth.{Growth}
 use Rattle.growth.specs.declared.Growth.the-variants.{Fixed, Doubling}
-use Rattle.growth.specs.Growing.{startSize, largestSize, nextSize, sizeAfter, reachedIn, fitsSize, fitsGrowth, sizeOf, grown, stepWhy, stepOf}
+use Rattle.growth.specs.Growing.{startSize, sheet, nextSize, sizeAfter, reachedIn, fitsSize, fitsGrowth, grown, stepWhy, stepOf}
 
-pub next-doubles : (s : ℕ) → s < largestSize → nextSize s ≡ 2 * s
-unfolding nextSize
-next-doubles s h = rw (lt-ltb s largestSize h)
-
-pub next-stays : (s : ℕ) → largestSize ≤ s → nextSize s ≡ s
-unfolding nextSize
-next-stays s h = rw (le-ltb s largestSize h)
-
--- the first eight steps double, the rest change nothing
-pub size-doubles : (k : ℕ) → k ≤ 8 → sizeAfter k ≡ startSize * 2 ^ k
-unfolding sizeAfter startSize largestSize
-size-doubles zero h = refl
-size-doubles (suc k) h =
-    let below : 2 ^ k < 2 ^ 8 = pow-lt {i = k} {j = 8} (omega arith) in
-    rw (size-doubles k (omega arith), pow-suc 2 k) (next-doubles (8192 * 2 ^ k) (omega arith) ∙ omega arith)
-
-pub size-stays : (k : ℕ) → sizeAfter (8 + k) ≡ largestSize
-unfolding sizeAfter startSize largestSize
-size-stays zero = size-doubles 8 (omega arith)
-size-stays (suc k) = rw (add-suc 8 k, size-stays k) (next-stays largestSize (omega arith))
-
-pub size-bounds : (k : ℕ) → (startSize ≤ sizeAfter k) × (sizeAfter k ≤ largestSize)
-unfolding startSize largestSize
-size-bounds k = by (leb k 8) refl
-  where
-    by : (t : Bool) → leb k 8 ≡ t → (startSize ≤ sizeAfter k) × (sizeAfter k ≤ largestSize)
-    by true e =
-        let h : k ≤ 8 = leb-true k 8 e in
-        let top : 2 ^ k ≤ 2 ^ 8 = pow-mono {i = k} {j = 8} h in
-        let low : 0 < 2 ^ k = pow-pos k in
-        (omega (arith, size-doubles k h), omega (arith, size-doubles k h))
-    by false e =
-        let h : k ≡ 8 + (k - 8) = omega (arith, leb-false k 8 e) in
-        rw h (omega (arith, size-stays (k - 8)), omega (arith, size-stays (k - 8)))
-
--- no block has the size that doubling starts from (an end theorem: nothing cites it)
-pub next-above : (k : ℕ) → startSize < nextSize (sizeAfter k)
-unfolding startSize largestSize
-next-above k = by (ltb (sizeAfter k) largestSize) refl
-  where
-    by : (t : Bool) → ltb (sizeAfter k) largestSize ≡ t → startSize < nextSize (sizeAfter k)
-    by true e = omega (arith, next-doubles (sizeAfter k) (ltb-true (sizeAfter k) largestSize e), size-bounds k)
-    by false e = omega (arith, next-stays (sizeAfter k) (ltb-false (sizeAfter k) largestSize e), ltb-false)
-
--- a size that fits is the size after some number of steps, and each such size fits
-pub record SizeReached (s : ℕ) : Type 0 where
-  pub steps : ℕ
-  pub is : s ≡ sizeAfter steps
+and-both : (x y : Bool) → x && y ≡ true → (x ≡ true) × (y ≡ true)
+and-both true y e = (refl, e)
+and-both false y e = absurd (true≢false (sym e))
 
 or-left : (x y : Bool) → x ≡ true → x || y ≡ true
 or-left true y e = refl
@@ -72,6 +28,24 @@ or-right : (x y : Bool) → y ≡ true → x || y ≡ true
 or-right true y e = refl
 or-right false y e = e
 
+-- the test holds at each number below n
+unfoldable pub eachBelow : (ℕ → Bool) → ℕ → Bool
+eachBelow p zero = true
+eachBelow p (suc n) = eachBelow p n && p n
+
+pub each-at : (p : ℕ → Bool) (n k : ℕ) → eachBelow p n ≡ true → k < n → p k ≡ true
+unfolding eachBelow
+each-at p zero k e h = absurd (omega arith)
+each-at p (suc n) k e h = by (ltb k n) refl (λ q. each-at p n k (both .0) q)
+  where
+    both : (eachBelow p n ≡ true) × (p n ≡ true)
+    both = and-both (eachBelow p n) (p n) e
+
+    by : (t : Bool) → ltb k n ≡ t → (k < n → p k ≡ true) → p k ≡ true
+    by true q ih = ih (ltb-true k n q)
+    by false q ih = let last : k ≡ n = omega (arith, ltb-false k n q) in ap p last ∙ both .1
+
+-- reached in fewer than n steps: the size after some k below n
 pub reached-at : (n k s : ℕ) → k < n → s ≡ sizeAfter k → reachedIn n s ≡ true
 unfolding reachedIn
 reached-at zero k s h e = absurd (omega arith)
@@ -83,45 +57,44 @@ reached-at (suc n) k s h e = by (ltb k n) refl (λ q. reached-at n k s q e)
         let last : k ≡ n = omega (arith, ltb-false k n q) in
         or-right (reachedIn n s) (eqb s (sizeAfter n)) (eq-eqb s (sizeAfter n) (e ∙ ap sizeAfter last))
 
-pub reached-is : (n s : ℕ) → reachedIn n s ≡ true → SizeReached s
+pub none-more : (k s : ℕ) → reachedIn k s ≡ false → eqb s (sizeAfter k) ≡ false → reachedIn (suc k) s ≡ false
 unfolding reachedIn
-reached-is zero s e = absurd (true≢false (sym e))
-reached-is (suc n) s e = by (reachedIn n s) refl (λ q. reached-is n s q)
+none-more k s e h = rw (e, h)
+
+-- what holds of the size after each k below n holds of every size that is reached in fewer than n steps
+each-reached : (p : ℕ → Bool) (n s : ℕ) → eachBelow (λ k. p (sizeAfter k)) n ≡ true → reachedIn n s ≡ true → p s ≡ true
+unfolding eachBelow reachedIn
+each-reached p zero s e h = absurd (true≢false (sym h))
+each-reached p (suc n) s e h = by (reachedIn n s) refl (λ q. each-reached p n s (both .0) q)
   where
-    by : (t : Bool) → reachedIn n s ≡ t → (reachedIn n s ≡ true → SizeReached s) → SizeReached s
+    both : (eachBelow (λ k. p (sizeAfter k)) n ≡ true) × (p (sizeAfter n) ≡ true)
+    both = and-both (eachBelow (λ k. p (sizeAfter k)) n) (p (sizeAfter n)) e
+
+    by : (t : Bool) → reachedIn n s ≡ t → (reachedIn n s ≡ true → p s ≡ true) → p s ≡ true
     by true q ih = ih q
-    by false q ih = record { steps = n; is = eqb-true s (sizeAfter n) (rw q at e) }
+    by false q ih = ap p (eqb-true s (sizeAfter n) (rw q at h)) ∙ both .1
 
-pub fits-at : (s k : ℕ) → k < 9 → s ≡ sizeAfter k → fitsSize s ≡ true
+-- what holds of the start and of the sheet's eight sizes holds of every size that fits
+pub each-fits : (p : ℕ → Bool) (s : ℕ) → eachBelow (λ k. p (sizeAfter k)) 9 ≡ true → fitsSize s ≡ true → p s ≡ true
 unfolding fitsSize
-fits-at s k h e = reached-at 9 k s h e
+each-fits p s e h = each-reached p 9 s e h
 
+pub next-fits : (s : ℕ) → fitsSize s ≡ true → fitsSize (nextSize s) ≡ true
+unfolding eachBelow startSize nextSize sizeAfter reachedIn fitsSize
+next-fits s h = each-fits (λ s. fitsSize (nextSize s)) s refl h
+
+-- each size that growth reaches fits, however many steps it takes
 pub fits-reached : (k : ℕ) → fitsSize (sizeAfter k) ≡ true
-unfolding fitsSize
-fits-reached k = by (ltb k 9) refl
-  where
-    by : (t : Bool) → ltb k 9 ≡ t → reachedIn 9 (sizeAfter k) ≡ true
-    by true e = reached-at 9 k (sizeAfter k) (ltb-true k 9 e) refl
-    by false e =
-        let h : k ≡ 8 + (k - 8) = omega (arith, ltb-false k 9 e) in
-        reached-at 9 8 (sizeAfter k) (omega arith) (ap sizeAfter h ∙ size-stays (k - 8) ∙ sym (size-stays 0))
+unfolding startSize sizeAfter reachedIn fitsSize
+fits-reached zero = refl
+fits-reached (suc k) = next-fits (sizeAfter k) (fits-reached k)
 
-pub fits-size-is : (s : ℕ) → fitsSize s ≡ true → SizeReached s
-unfolding fitsSize
-fits-size-is s e = reached-is 9 s e
+-- the blocks have the sheet's sizes in their order
+pub sheet-is : (k : ℕ) → k < 8 → getD sheet k 0 ≡ sizeAfter (suc k)
+unfolding eachBelow startSize sheet nextSize sizeAfter
+sheet-is k h = eqb-true (getD sheet k 0) (sizeAfter (suc k)) (each-at (λ k. eqb (getD sheet k 0) (sizeAfter (suc k))) 8 k refl h)
 
--- a step leaves a state that fits, and a size that a block may have
-pub grown-fits : (g : Growth) → fitsGrowth g ≡ true → fitsGrowth (grown g) ≡ true
-unfolding fitsGrowth sizeAfter
-grown-fits (Fixed n) e = e
-grown-fits (Doubling s) e =
-    let r = fits-size-is s e in
-    rw (r .is) (fits-reached (suc (r .steps)))
-
-and-both : (x y : Bool) → x && y ≡ true → (x ≡ true) × (y ≡ true)
-and-both true y e = (refl, e)
-and-both false y e = absurd (true≢false (sym e))
-
+-- a state, by what it holds
 pub fixed-zero : (g : Growth) (n : ℕ) → g ≡ Fixed n → n < 1 → fitsGrowth g ≡ false
 unfolding fitsGrowth
 fixed-zero g n e h = rw (e, lt-leb 1 n h)
@@ -134,37 +107,15 @@ pub doubling-is : (g : Growth) (s : ℕ) → g ≡ Doubling s → fitsGrowth g �
 unfolding fitsGrowth
 doubling-is g s e = rw e
 
-pub doubling-most : (g : Growth) (s : ℕ) → g ≡ Doubling s → fitsGrowth g ≡ true → s ≤ largestSize
-doubling-most g s e h =
-    let r = fits-size-is s (sym (doubling-is g s e) ∙ h) in
-    rw (r .is) (size-bounds (r .steps) .1)
-
-pub fixed-bounds : (n : ℕ) → fitsGrowth (Fixed n) ≡ true → (1 ≤ n) × (n ≤ byteLimit)
-unfolding fitsGrowth
-fixed-bounds n e = let p = and-both (leb 1 n) (leb n byteLimit) e in (leb-true 1 n (p .0), leb-true n byteLimit (p .1))
-
--- a block's size is 1 to the byte limit (an end theorem: nothing cites it)
-pub size-of-bounds : (g : Growth) → fitsGrowth g ≡ true → (1 ≤ sizeOf g) × (sizeOf g ≤ byteLimit)
-unfolding fitsGrowth startSize largestSize sizeAfter
-size-of-bounds (Fixed n) e = fixed-bounds n e
-size-of-bounds (Doubling s) e =
-    let r = fits-size-is s e in
-    let b = size-bounds (suc (r .steps)) in
-    let h : nextSize s ≡ sizeAfter (suc (r .steps)) = ap nextSize (r .is) in
-    (omega arith, omega (arith, byte-limit-is))
-
--- the start, the first size and the eighth (end theorems where nothing cites them: the paper's own figures)
+-- a start makes a state that fits, and a step leaves one
 pub start-fits : fitsGrowth (Doubling startSize) ≡ true
 unfolding fitsGrowth sizeAfter
 start-fits = fits-reached 0
 
-pub first-size : sizeOf (Doubling startSize) ≡ 16384
-unfolding startSize largestSize nextSize
-first-size = refl
-
-pub eighth-size : sizeAfter 8 ≡ 2097152
-unfolding largestSize
-eighth-size = size-stays 0
+pub grown-fits : (g : Growth) → fitsGrowth g ≡ true → fitsGrowth (grown g) ≡ true
+unfolding fitsGrowth
+grown-fits (Fixed n) e = e
+grown-fits (Doubling s) e = next-fits s e
 
 -- a negated answer of a callee, put to use
 pub not-true : (x y : Bool) → x ≡ y → not x ≡ true → y ≡ false
@@ -188,3 +139,27 @@ pub step-doubling : (g : Growth) (s m : ℕ) → g ≡ Doubling s → fitsGrowth
     → stepOf g ≡ record { why = Accepted; growth = Doubling m; size = m }
 unfolding stepOf stepWhy refuse
 step-doubling g s m e h k = rw (h, e, k)
+
+-- the size that a step answers: the one after s where s is reached, else 0, which no size is
+pub size-reached : (s k : ℕ) → k < 9 → s ≡ sizeAfter k → sizeAfter (suc k) ≡ stepOf (Doubling s) .size
+unfolding fitsGrowth fitsSize sizeAfter
+size-reached s k h e =
+    sym (ap (λ (z : Step). z .size) (step-doubling (Doubling s) s (sizeAfter (suc k)) refl (reached-at 9 k s h e) (ap nextSize (sym e))))
+
+pub size-none : (s : ℕ) → reachedIn 9 s ≡ false → 0 ≡ stepOf (Doubling s) .size
+unfolding fitsGrowth fitsSize
+size-none s e = sym (ap (λ (z : Step). z .size) (step-refused (Doubling s) e))
+
+pub size-next : (s n : ℕ) → n ≡ stepOf (Doubling s) .size → fitsSize s ≡ true → n ≡ nextSize s
+unfolding fitsGrowth
+size-next s n e h = e ∙ ap (λ (z : Step). z .size) (step-doubling (Doubling s) s (nextSize s) refl h refl)
+
+pub size-some : (s n : ℕ) → n ≡ stepOf (Doubling s) .size → not (eqb n 0) ≡ fitsSize s
+unfolding eachBelow startSize nextSize sizeAfter fitsGrowth
+size-some s n e = by (fitsSize s) refl
+  where
+    by : (t : Bool) → fitsSize s ≡ t → not (eqb n 0) ≡ fitsSize s
+    by true h = rw (size-next s n e h, h) (each-fits (λ s. not (eqb (nextSize s) 0)) s refl h)
+    by false h =
+        let none : n ≡ 0 = e ∙ ap (λ (z : Step). z .size) (step-refused (Doubling s) h) in
+        rw (none, h)

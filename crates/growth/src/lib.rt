@@ -1,17 +1,24 @@
-// How the next block's size is chosen: always the same, or doubled from one block to the next up to a largest size.
+// How the next block's size is chosen: always the same, or the next one on the wall sheet of sizes.
 ghost use mathlib.Core.Path.{_≡_};
-ghost use Prim.Native.Nat.{_≤_};
-ghost use Rattle.growth.specs.Growing.{largestSize, nextSize, fitsGrowth, fitsSize, stepOf};
+ghost use Rattle.growth.specs.Growing.{fitsGrowth, stepOf};
+ghost use Rattle.growth.specs.declared.Growth.the-variants.{Doubling};
 use bounds::Refusal;
 use bounds::Why;
 
-// Where doubling starts; no block has this size, the first has twice it.
+// Where doubling starts; not on the sheet.
 pub const START_SIZE: usize = 8192;
 
-const LARGEST_SIZE: usize = 2097152;
-
-// The steps from the start to the largest size.
-const STEPS: usize = 8;
+// The wall sheet: the sizes of the first block to the eighth. Every later block has the eighth.
+const SHEET: [usize; 8] = [
+    16384,
+    32768,
+    65536,
+    131072,
+    262144,
+    524288,
+    1048576,
+    2097152,
+];
 
 pub enum Growth {
     Fixed(usize),
@@ -24,29 +31,22 @@ pub struct Step {
     pub size: usize,
 }
 
-// The size after `s`.
+// The size after `s`: the next one on the sheet. The start comes before the first, and the last stays. 0 where `s` is neither the start nor on the sheet.
 fn next_size(s: usize) -> usize
-    requires { ⌜ s ≤ largestSize ⌝ }
-    ensures { λ r. ⌜ r ≡ nextSize s ⌝ }
+    ensures { λ r. ⌜ r ≡ stepOf (Doubling s) .size ⌝ }
 {
-    if s < LARGEST_SIZE {
-        return 2 * s;
-    }
-    s
-}
-
-// Is `s` the start or a size that doubling reaches from it?
-fn fits_size(s: usize) -> bool
-    ensures { λ r. ⌜ r ≡ fitsSize s ⌝ }
-{
-    let mut size = START_SIZE;
-    for k in 0..STEPS {
-        if s == size {
-            return true;
+    let mut before = START_SIZE;
+    for k in 0..SHEET.len() {
+        let n = SHEET[k];
+        if s == before {
+            return n;
         }
-        size = next_size(size);
+        before = n;
     }
-    s == size
+    if s == before {
+        return before;
+    }
+    0
 }
 
 impl Growth {
@@ -61,7 +61,7 @@ impl Growth {
                 }
                 n <= bounds::BYTE_LIMIT
             }
-            Growth::Doubling(s) => fits_size(s),
+            Growth::Doubling(s) => next_size(s) != 0,
         }
     }
 

@@ -40,22 +40,21 @@
 extern "C" {
 #endif
 
-/* The refusals. */
+/* The refusals. docs/CALLS.md says what to do about each, and which number is left out. */
 enum {
     TAMBUYEEL_ACCEPTED = 0,
-    TAMBUYEEL_REFUSED_SETTING = 1,       /* block size not 1 to 16,777,216; merge maximum 0; compaction maximum above 2^31 - 1 */
-    TAMBUYEEL_REFUSED_NUMBERS = 2,       /* the numbers of a column or state don't fit its buffers or the limits below */
-    TAMBUYEEL_REFUSED_ROW = 3,           /* row, or slice end, past the rows */
-    TAMBUYEEL_REFUSED_TOO_LONG = 4,      /* value or block above 16,777,216 bytes */
-    TAMBUYEEL_REFUSED_ROW_ROOM = 5,      /* too little row room: views, null map, and places where the builder merges */
-    TAMBUYEEL_REFUSED_BLOCK_ROOM = 6,    /* too little block room: starts and lens */
-    TAMBUYEEL_REFUSED_DATA_ROOM = 7,     /* too little data room: bytes */
-    TAMBUYEEL_REFUSED_NO_BLOCK = 8,      /* no completed block of that number */
-    TAMBUYEEL_REFUSED_RANGE = 9,         /* range outside the block, or the block outside the data */
-    TAMBUYEEL_REFUSED_NOT_UTF8 = 10,     /* not UTF-8, String kind only */
-    TAMBUYEEL_REFUSED_VIEW = 11,         /* a view that isn't reachable (reading, comparing, marks) or isn't true (check, compaction, appending) */
-    TAMBUYEEL_REFUSED_BLOCK_NUMBER = 12, /* block number doesn't fit in 32 bits; never given, since a builder holds 4,096 blocks at most */
-    TAMBUYEEL_REFUSED_OFFSETS = 13       /* offsets absent, negative, falling, or past the bytes */
+    TAMBUYEEL_REFUSED_SETTING = 1,    /* block size not 1 to 16,777,216; merge maximum 0; compaction maximum above 2^31 - 1 */
+    TAMBUYEEL_REFUSED_NUMBERS = 2,    /* the numbers of a column or state don't fit its buffers or the limits below */
+    TAMBUYEEL_REFUSED_ROW = 3,        /* row, or slice end, past the rows */
+    TAMBUYEEL_REFUSED_TOO_LONG = 4,   /* value or block above 16,777,216 bytes */
+    TAMBUYEEL_REFUSED_ROW_ROOM = 5,   /* too little row room: views, null map, and places where the builder merges */
+    TAMBUYEEL_REFUSED_BLOCK_ROOM = 6, /* too little block room: starts and lens */
+    TAMBUYEEL_REFUSED_DATA_ROOM = 7,  /* too little data room: bytes */
+    TAMBUYEEL_REFUSED_NO_BLOCK = 8,   /* no completed block of that number */
+    TAMBUYEEL_REFUSED_RANGE = 9,      /* range outside the block, or the block outside the data */
+    TAMBUYEEL_REFUSED_NOT_UTF8 = 10,  /* not UTF-8, String kind only */
+    TAMBUYEEL_REFUSED_VIEW = 11,      /* a view that isn't reachable (reading, comparing, marks) or isn't true (check, compaction, appending) */
+    TAMBUYEEL_REFUSED_OFFSETS = 13    /* offsets absent, negative, falling, or past the bytes */
 };
 
 /* Which of two columns a refusal is of: added to its number. */
@@ -333,7 +332,6 @@ static inline const char *tambuyeel_words(uint64_t refused)
     case TAMBUYEEL_REFUSED_RANGE: return "outside its block, or the block outside the data";
     case TAMBUYEEL_REFUSED_NOT_UTF8: return "not UTF-8";
     case TAMBUYEEL_REFUSED_VIEW: return "a view that points outside its block or disagrees with its value";
-    case TAMBUYEEL_REFUSED_BLOCK_NUMBER: return "a block number above 32 bits";
     case TAMBUYEEL_REFUSED_OFFSETS: return "offsets that are missing, negative, falling or past the bytes";
     default: return "refused";
     }

@@ -1,5 +1,6 @@
 //! The checks, a small comparison, and that scripts and lists can be had again.
 
+use model::RETIRED;
 use oracle::answer::{Answer, Engine};
 use oracle::by_model::ByModel;
 use oracle::by_original::quiet;
@@ -40,7 +41,7 @@ fn the_same_seed_gives_the_same_script() {
 }
 
 /// On damaged columns, odd states and short buffers the model answers every call, each number is given at least once
-/// but 12, which nobody can get, and a refused call changes no lent buffer.
+/// but the retired one, and a refused call changes no lent buffer.
 #[test]
 fn the_model_is_total() {
     let mut given = [0u64; 14];
@@ -57,7 +58,7 @@ fn the_model_is_total() {
         // 4 needs a value above 16,777,216 bytes; the checks have one.
         assert_eq!(
             *times > 0,
-            ![0, 4, 12].contains(&n),
+            ![0, 4, RETIRED as usize].contains(&n),
             "refusal {n}: {times} times"
         );
     }

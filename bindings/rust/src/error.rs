@@ -113,7 +113,6 @@ impl Error {
             9 => "outside its block, or the block outside the data",
             10 => "not UTF-8",
             11 => "a view that points outside its block or disagrees with its value",
-            12 => "a block number above 32 bits",
             13 => "offsets that are missing, negative, falling or past the bytes",
             _ => "refused",
         }

@@ -4,7 +4,7 @@ use mathlib.Core.Path.{_≡_, refl, sym, ap, _∙_, subst}
 use mathlib.Core.Bool.{Bool, true, false, not}
 use mathlib.Core.Logic.{by-cases}
 use mathlib.Core.List.{List}
-use Prim.Native.Nat.{ℕ, _+_, _^_, _≤_, _<_}
+use Prim.Native.Nat.{ℕ, _+_, _≤_, _<_}
 use native.Mathlib.Nat.{add-zero}
 use native.Mathlib.Decide.{ℕ-discrete}
 use native.Mathlib.Omega.{arith}
@@ -25,7 +25,7 @@ use Rattle.column.specs.Lent.{blockRoom, dataRoom}
 use Rattle.column.specs.Truth.{ofKind}
 use Rattle.builder.specs.declared.Merging.the-variants.{Off}
 use Rattle.builder.specs.State.{Builder, rowsRoom, isOpen, allBlocks, used, fitsState, closed, complete, fitsOpen, sized, makeRoom, lay, addRow, addRows}
-use Rattle.builder.specs.Values.{foundBy, found, blockFor, whyLay, whyStore, whyRows, whyValues, store, putFound, putValue, putValues, whyNull, putNull}
+use Rattle.builder.specs.Values.{foundBy, found, whyLay, whyStore, whyRows, whyValues, store, putFound, putValue, putValues, whyNull, putNull}
 use Rattle.promise.specs.Calls.{Cell}
 use Rattle.promise.proofs.Fits.{are-fits, data-bytes, sizes-then, sizes-complete, sizes-grow, sizes-lay, grow, room-is}
 use Rattle.promise.proofs.Steps.{Inv}
@@ -54,24 +54,22 @@ none-found b x e = rw e
 
 module _ (b : Builder) (n : ℕ) (a : Numbers n b) (k : ℕ) (r : n + k ≤ 16379) where
   lay-open : 0 < n → whyLay (b .state) (blockRoom (b .lent)) (dataRoom (b .lent)) k ≡ Accepted
-  unfolding whyLay fitsOpen blockFor refuse
+  unfolding whyLay fitsOpen refuse
   lay-open h =
       rw (
         is-open b n a h,
         le-leb (b .state .fill + k) (b .state .cap) (omega (arith, a .fill, a .cap h)),
         le-ltb (dataRoom (b .lent)) (used (b .state) + k) (omega (arith, a .fill, a .base, a .bytes)),
-        lt-leb (2 ^ 32) (b .state .blocks) (omega (arith, a .blocks)),
       )
 
   lay-first : n ≡ 0 → whyLay (b .state) (blockRoom (b .lent)) (dataRoom (b .lent)) k ≡ Accepted
-  unfolding whyLay fitsOpen blockFor refuse allBlocks
+  unfolding whyLay fitsOpen refuse allBlocks
   lay-first h =
       let z : b .state .fill ≡ 0 = a .fill ∙ h in
       rw (
         z,
         lt-leb (blockRoom (b .lent)) (b .state .blocks) (omega (arith, a .blocks, a .table)),
         le-ltb (dataRoom (b .lent)) (b .state .base + 0 + k) (omega (arith, a .base, a .bytes)),
-        lt-leb (2 ^ 32) (b .state .blocks) (omega (arith, a .blocks)),
       )
 
   pub why-store : (x : List ℕ) → length x ≡ k → whyStore b x ≡ Accepted

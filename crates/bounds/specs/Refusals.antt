@@ -1,9 +1,10 @@
 -- The paper's number for each refusal, the row that it names, and how a call's tests make its verdict. Assumes nothing.
 use Prim.Native.Nat.{ℕ}
+use native.Mathlib.Omega.{arith}
 use mathlib.Core.Bool.{Bool, true, false, true≢false}
 use mathlib.Core.Path.{_≡_, refl, sym}
 use Rattle.bounds.specs.declared.Refusal.{Refusal}
-use Rattle.bounds.specs.declared.Refusal.the-variants.{Setting, Fit, Row, TooLong, RowRoom, BlockRoom, DataRoom, NoBlock, Range, NotUtf8, BadView, BlockNumber, Offsets}
+use Rattle.bounds.specs.declared.Refusal.the-variants.{Setting, Fit, Row, TooLong, RowRoom, BlockRoom, DataRoom, NoBlock, Range, NotUtf8, BadView, Offsets}
 use Rattle.bounds.specs.declared.Why.{Why}
 use Rattle.bounds.specs.declared.Why.the-variants.{Accepted, Refused}
 
@@ -19,7 +20,6 @@ numberOf NoBlock = 8
 numberOf Range = 9
 numberOf NotUtf8 = 10
 numberOf (BadView r) = 11
-numberOf BlockNumber = 12
 numberOf Offsets = 13
 
 -- counted from the column's first row; 0 where the refusal names none
@@ -35,7 +35,6 @@ rowNamed NoBlock = 0
 rowNamed Range = 0
 rowNamed NotUtf8 = 0
 rowNamed (BadView r) = r
-rowNamed BlockNumber = 0
 rowNamed Offsets = 0
 
 -- 0 where the call is accepted
@@ -46,6 +45,10 @@ whyNumber (Refused r) = numberOf r
 abbrev pub isAccepted : Why → Bool
 isAccepted Accepted = true
 isAccepted (Refused r) = false
+
+-- the number that document 01 had for a block number above 32 bits: no builder has such a block, and nothing else gets the number
+abbrev pub retired : ℕ
+retired = 12
 
 abbrev pub refuseBy : Refusal → Bool → Why → Why
 refuseBy r true w = Refused r
@@ -88,3 +91,22 @@ accepted-no w w′ x y z e h p = go w (rw e at h)
     go : (w : Why) → isAccepted w ≡ false → z ≡ ifAccepted w x y
     go Accepted k = absurd (true≢false k)
     go (Refused r) k = p
+
+-- no refusal has the retired number, so no verdict has
+pub none-retired : (r : Refusal) → numberOf r ≡ retired → ⊥
+none-retired Setting e = omega arith
+none-retired Fit e = omega arith
+none-retired Row e = omega arith
+none-retired TooLong e = omega arith
+none-retired RowRoom e = omega arith
+none-retired BlockRoom e = omega arith
+none-retired DataRoom e = omega arith
+none-retired NoBlock e = omega arith
+none-retired Range e = omega arith
+none-retired NotUtf8 e = omega arith
+none-retired (BadView r) e = omega arith
+none-retired Offsets e = omega arith
+
+pub never-retired : (w : Why) → whyNumber w ≡ retired → ⊥
+never-retired Accepted e = omega arith
+never-retired (Refused r) e = none-retired r e

@@ -27,7 +27,6 @@ pub enum Refusal {
     Range,
     NotUtf8,
     BadView(usize),
-    BlockNumber,
     Offsets,
 }
 
@@ -37,7 +36,7 @@ pub enum Why {
     Refused(Refusal),
 }
 
-// The refusal's number, from 1 to 13.
+// The refusal's number: 1 to 13, and never the retired one.
 pub fn number(r: Refusal) -> u8
     ensures { λ n. ⌜ n ≡ numberOf r ⌝ }
 {
@@ -53,7 +52,6 @@ pub fn number(r: Refusal) -> u8
         Refusal::Range => 9,
         Refusal::NotUtf8 => 10,
         Refusal::BadView(_) => 11,
-        Refusal::BlockNumber => 12,
         Refusal::Offsets => 13,
     }
 }
@@ -74,7 +72,6 @@ pub fn row(r: Refusal) -> usize
         Refusal::Range => 0,
         Refusal::NotUtf8 => 0,
         Refusal::BadView(k) => k,
-        Refusal::BlockNumber => 0,
         Refusal::Offsets => 0,
     }
 }

@@ -2,9 +2,8 @@
 use mathlib.Core.Path.{_≡_, ap, _∙_}
 use mathlib.Core.Bool.{Bool, true, false, not, _&&_}
 use mathlib.Core.List.{List}
-use Prim.Native.Nat.{ℕ, _+_, _^_, max, _≤_, _<_}
-use native.Mathlib.Omega.{arith}
-use borrow.Author.Tests.{lt-leb, lt-ltb, le-ltb, eq-eqb, ne-eqb}
+use Prim.Native.Nat.{ℕ, _+_, max, _≤_, _<_}
+use borrow.Author.Tests.{lt-ltb, le-ltb, eq-eqb, ne-eqb}
 use lib.Dec.{leb}
 use lib.ListN.{set}
 use Rattle.basis.specs.Pick.{pick}
@@ -16,8 +15,7 @@ use Rattle.growth.specs.declared.Step.{Step}
 use Rattle.builder.specs.declared.State.{State}
 use Rattle.builder.specs.State.{moved, allBlocks, used, closed, sized, fitsOpen}
 use Rattle.builder.specs.Rooms.{openStarts, openLens}
-use Rattle.builder.specs.RoomLaws.{all-bounds}
-use Rattle.builder.specs.Values.{blockFor, whyLay}
+use Rattle.builder.specs.Values.{whyLay}
 
 pub pick-yes : {A : Type 0} (t u : Bool) (a b x : A) → u ≡ t → u ≡ true → x ≡ a → x ≡ pick t a b
 pick-yes t u a b x e h p = rw (← e, h) p
@@ -53,7 +51,7 @@ module _ (s : State) (ss ns : List ℕ) where
   unfolding openStarts openLens
   record-open h = (rw (ne-eqb (s .fill) 0 h), rw (ne-eqb (s .fill) 0 h))
 
--- 6, 7 and 12
+-- 6 and 7
 module _ (s : State) (blocks bytes n : ℕ) where
   pub no-block : (t : Bool) → t ≡ fitsOpen s n → t ≡ true → false ≡ not (fitsOpen s n) && leb blocks (allBlocks s)
   no-block t e h = rw (← e, h)
@@ -70,15 +68,6 @@ module _ (s : State) (blocks bytes n : ℕ) where
   unfolding whyLay refuse
   lay-no-data t e h g = rw (← e, h, lt-ltb bytes (used s + n) g)
 
-  small-number : allBlocks s < 2 ^ 32 → blockFor s n < 2 ^ 32
-  unfolding blockFor
-  small-number h = by (fitsOpen s n)
-    where
-      by : (t : Bool) → pick t (s .blocks) (allBlocks s) < 2 ^ 32
-      by true = omega (arith, all-bounds s)
-      by false = h
-
-  pub lay-fine : (t : Bool) → t ≡ not (fitsOpen s n) && leb blocks (allBlocks s) → t ≡ false → used s + n ≤ bytes → allBlocks s < 2 ^ 32 → Accepted
-      ≡ whyLay s blocks bytes n
+  pub lay-fine : (t : Bool) → t ≡ not (fitsOpen s n) && leb blocks (allBlocks s) → t ≡ false → used s + n ≤ bytes → Accepted ≡ whyLay s blocks bytes n
   unfolding whyLay refuse
-  lay-fine t e h g k = rw (← e, h, le-ltb bytes (used s + n) g, lt-leb (2 ^ 32) (blockFor s n) (small-number k))
+  lay-fine t e h g = rw (← e, h, le-ltb bytes (used s + n) g)

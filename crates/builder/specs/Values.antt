@@ -1,7 +1,7 @@
 -- The value calls, once and n times, and the null call: why each refuses, and what it does. Assumes nothing.
 use mathlib.Core.Bool.{Bool, true, false, not, _&&_}
 use mathlib.Core.List.{List}
-use Prim.Native.Nat.{ℕ, suc, _+_, _-_, _^_}
+use Prim.Native.Nat.{ℕ, suc, _+_, _-_}
 use lib.Dec.{leb, ltb, eqb}
 use lib.ListN.{length}
 use Rattle.basis.specs.Pick.{pick}
@@ -9,7 +9,7 @@ use Rattle.order.specs.Order.{same}
 use Rattle.hash.specs.Hash.{hashOf}
 use Rattle.bounds.specs.Bounds.{byteLimit}
 use Rattle.bounds.specs.Refusals.{refuse, isAccepted}
-use Rattle.bounds.specs.declared.Refusal.the-variants.{Fit, TooLong, NotUtf8, RowRoom, BlockRoom, DataRoom, BlockNumber}
+use Rattle.bounds.specs.declared.Refusal.the-variants.{Fit, TooLong, NotUtf8, RowRoom, BlockRoom, DataRoom}
 use Rattle.bounds.specs.declared.Why.{Why}
 use Rattle.bounds.specs.declared.Why.the-variants.{Accepted}
 use Rattle.views.specs.View.{isShort, shortView, longView, zeroView, viewAt}
@@ -42,16 +42,10 @@ foundBy m places hit x = pick (merges m (length x)) (search·from places hit (ha
 unfoldable pub found : Builder → List ℕ → Found
 found b x = foundBy (b .state .merging) (b .places) (hits b x) x
 
--- the number of the block that takes n bytes more
-unfoldable pub blockFor : State → ℕ → ℕ
-blockFor s n = pick (fitsOpen s n) (s .blocks) (allBlocks s)
-
 -- n bytes more, in rooms for so many blocks and bytes; 6 only where a new block is needed
 unfoldable pub whyLay : State → ℕ → ℕ → ℕ → Why
 whyLay s blocks bytes n =
-    refuse BlockRoom (not (fitsOpen s n) && leb blocks (allBlocks s))
-    (refuse DataRoom (ltb bytes (used s + n))
-    (refuse BlockNumber (leb (2 ^ 32) (blockFor s n)) Accepted))
+    refuse BlockRoom (not (fitsOpen s n) && leb blocks (allBlocks s)) (refuse DataRoom (ltb bytes (used s + n)) Accepted)
 
 -- neither block nor bytes are needed for a short value, nor for a row that is found
 unfoldable pub whyStore : Builder → List ℕ → Why

@@ -18,7 +18,7 @@ use Rattle.reading.specs.Reading as reading
 use Rattle.comparison.specs.Compare.{compareViews, bothOf, whyCompare, compareRows}
 use Rattle.builder.specs.State.{rowsRoom, allBlocks, fitsRooms, fitsState, recorded, blocksNow, closed, complete, fitsOpen, sized, roomed, makeRoom, lay, addRow, addRows}
 use Rattle.builder.specs.Start.{whyStart, cleared, start}
-use Rattle.builder.specs.Values.{hits, foundBy, found, blockFor, whyLay, whyStore, whyRows, whyValues, store, putFound, putValue, putValues}
+use Rattle.builder.specs.Values.{hits, foundBy, found, whyLay, whyStore, whyRows, whyValues, store, putFound, putValue, putValues}
 use Rattle.builder.specs.Get.{whyGet, getValue}
 use Rattle.builder.specs.Finish.{whyFinish, finished}
 use Rattle.compaction.specs.Cut.{roomFor, cutFrom, cutAll, cutLens}
@@ -36,7 +36,7 @@ unfolding rowLimit blockLimit byteLimit mostCompaction refuse wordAt enc pad bit
     reading.prefixBytes reading.suffixBytes
     reading.prefixAt reading.suffixAt reading.nullRun reading.bytesLen reading.totalBytesLen compareViews bothOf whyCompare compareRows rowsRoom
     allBlocks fitsRooms fitsState recorded blocksNow closed complete fitsOpen
-    sized roomed makeRoom lay addRow addRows whyStart cleared start whyGet getValue hits foundBy found blockFor whyLay whyStore whyRows whyValues store
+    sized roomed makeRoom lay addRow addRows whyStart cleared start whyGet getValue hits foundBy found whyLay whyStore whyRows whyValues store
     putFound putValue putValues whyFinish finished putRows total startsFrom roomFor cutFrom
     cutAll cutLens longOf viewBy whyRooms whyCompact compacted
 computed = 0

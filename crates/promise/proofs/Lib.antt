@@ -23,3 +23,4 @@ pub mod Twice
 pub mod Compactions
 pub mod Answered
 pub mod Outputs
+pub mod BlockNumbers

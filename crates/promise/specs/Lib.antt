@@ -8,3 +8,4 @@ pub mod Mixed
 pub mod Coded
 pub mod Compactions
 pub mod Answered
+pub mod BlockNumbers

@@ -221,9 +221,9 @@ fn no_block(s: State, blocks: usize, n: usize) -> bool
     blocks <= builder::all_blocks(s)
 }
 
-// 6, 7 and 12 for n bytes more. No state that fits needs a block whose number takes more than 32 bits.
+// 6 and 7 for n bytes more.
 pub fn why_lay(s: State, blocks: usize, bytes: usize, n: usize) -> Why
-    requires { ⌜ (allBlocks s < 2 ^ 32) × (used s + n < 2 ^ 64) ⌝ }
+    requires { ⌜ (allBlocks s < 2 ^ 64) × (used s + n < 2 ^ 64) ⌝ }
     ensures { λ r. ⌜ r ≡ whyLay s blocks bytes n ⌝ }
 {
     let base = s.base;

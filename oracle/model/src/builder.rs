@@ -209,7 +209,7 @@ fn earlier(s: &State, rooms: &Rooms, value: &[u8]) -> Option<u64> {
     equal.next()
 }
 
-/// Value: 2, 4, 10, 5, 6, 7, 12. The last can't occur, since a block number is at most 4,096.
+/// Value: 2, 4, 10, 5, 6, 7.
 pub fn append_value(s: &State, rooms: &mut Rooms, value: &[u8]) -> Result<State, Refusal> {
     append_value_n(s, rooms, value, 1)
 }

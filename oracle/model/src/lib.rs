@@ -45,6 +45,8 @@ pub const MAX_MAXIMUM: u64 = (1 << 31) - 1;
 pub const MAX_SHORT: u64 = 12;
 /// Bytes of a view.
 pub const VIEW: u64 = 16;
+/// The number that no refusal has: it stood for a block number above 32 bits, which no builder reaches.
+pub const RETIRED: u32 = 12;
 
 /// What a column's values are.
 #[derive(Clone, Copy, Debug, PartialEq, Eq)]
@@ -70,6 +72,7 @@ pub struct Refusal {
 
 impl Refusal {
     pub fn new(number: u32) -> Self {
+        assert_ne!(number, RETIRED);
         Refusal {
             number,
             row: 0,
@@ -79,9 +82,8 @@ impl Refusal {
 
     pub fn at_row(number: u32, row: u64) -> Self {
         Refusal {
-            number,
             row,
-            side: None,
+            ..Refusal::new(number)
         }
     }
 

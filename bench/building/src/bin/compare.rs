@@ -11,11 +11,17 @@ const NAMES: [&str; 10] = ["start", "value", "values", "null", "block", "view", 
 /// Bytes, records and places behind what is lent.
 const BEHIND: usize = 9;
 
-struct Table([[u64; 14]; 10]);
+/// The greatest number that a builder call gives.
+const MOST: usize = 11;
+
+/// Counts of calls by refusal number, 0 for the accepted.
+type Counts = [u64; MOST + 1];
+
+struct Table([Counts; 10]);
 
 impl Table {
     fn print(&self) {
-        let head: Vec<String> = (0..14).map(|n| format!("{n:>9}")).collect();
+        let head: Vec<String> = (0..=MOST).map(|n| format!("{n:>9}")).collect();
         println!("{:<15}{}", "refusal", head.join(""));
         for (name, row) in NAMES.iter().zip(&self.0) {
             let cells: Vec<String> = row.iter().map(|n| if *n == 0 { format!("{:>9}", ".") } else { format!("{n:>9}") }).collect();
@@ -430,7 +436,7 @@ fn call(r: &mut Random, p: &mut Pair, long: &[u8], table: &mut Table) -> Result<
         }
     };
     let told = |what: String| format!("{} {text}\nstate before {before:?}\nlent {:?}\n{what}", NAMES[which], p.ours.lent);
-    if refused > 13 {
+    if refused > MOST as u64 {
         return Err(told(format!("refusal {refused}")));
     }
     table.0[which][refused as usize] += 1;
@@ -572,7 +578,7 @@ fn main() {
     }
     let (seed, most): (u64, u64) = (args[1].parse().unwrap(), args[2].parse().unwrap());
     let long = vec![b'z'; 16_777_217 + 2];
-    let mut table = Table([[0; 14]; 10]);
+    let mut table = Table([[0; MOST + 1]; 10]);
     let mut calls = 0;
     let mut k = 0;
     while calls < most {

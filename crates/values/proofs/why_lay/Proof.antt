@@ -19,7 +19,7 @@ returns-2 : tie.Need-returns-2
 returns-2 c = lay-no-data _ _ _ _ _ (c .before .before .no-block .ensures) (c .before .if1 .left) (c .if2 .taken)
 
 returns-3 : tie.Need-returns-3
-returns-3 c = lay-fine _ _ _ _ _ (c .before .before .no-block .ensures) (c .before .if1 .left) (c .if2 .left) (c .before .before .before .pre .0)
+returns-3 c = lay-fine _ _ _ _ _ (c .before .before .no-block .ensures) (c .before .if1 .left) (c .if2 .left)
 
 pub why-lay-spec : {M : Type 1} → statement M
 why-lay-spec = tie.close (tie.spec no-block-requires returns add-if2 add-if2-2 returns-2 returns-3)

@@ -92,7 +92,7 @@ accepted-no w w′ x y z e h p = go w (rw e at h)
     go Accepted k = absurd (true≢false k)
     go (Refused r) k = p
 
--- no refusal has the retired number, so no verdict has
+-- no refusal has the retired number; so no verdict has, whose number is 0 or a refusal's
 pub none-retired : (r : Refusal) → numberOf r ≡ retired → ⊥
 none-retired Setting e = omega arith
 none-retired Fit e = omega arith

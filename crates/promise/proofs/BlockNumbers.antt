@@ -1,11 +1,10 @@
--- A state that a call accepts fits: its blocks are no more than a column's, and the number of the next one is as small. Assumes nothing.
+-- A state that a call accepts fits, so its blocks are no more than a column may have, and the number of the next one is as small. Assumes nothing.
 use mathlib.Core.Path.{_≡_, refl}
 use mathlib.Core.Bool.{Bool, true, false}
 use Prim.Native.Nat.{ℕ, _≤_}
 use native.Mathlib.Omega.{arith}
 use borrow.Author.Tests.{lt-leb, not-false}
 use lib.ListN.{length}
-use Rattle.basis.specs.Pick.{pick}
 use Rattle.bounds.specs.Bounds.{blockLimit, block-limit-small}
 use Rattle.bounds.specs.Refusals.{refuse}
 use Rattle.bounds.specs.declared.Refusal.{Refusal}
@@ -13,9 +12,9 @@ use Rattle.bounds.specs.declared.Why.{Why}
 use Rattle.bounds.specs.declared.Why.the-variants.{Accepted, Refused}
 use Rattle.column.specs.Lent.{blockRoom}
 use Rattle.showing.specs.Rooms.{passed}
-use Rattle.builder.specs.declared.State.{State}
-use Rattle.builder.specs.State.{Builder, allBlocks, fitsState, closed, fitsOpen, sized, roomed}
-use Rattle.builder.specs.RoomLaws.{all-bounds}
+use Rattle.builder.specs.State.{Builder, allBlocks, fitsState}
+use Rattle.builder.specs.PutLaws.{room-blocks}
+use Rattle.builder.specs.Get.{whyGet}
 use Rattle.builder.specs.Values.{whyValues, whyNull}
 use Rattle.builder.specs.Others.{whyBlock, whyView, whyColumn}
 use Rattle.builder.specs.Finish.{whyFinish}
@@ -34,18 +33,13 @@ accepted-fits (add·column l c) b e = not-false _ (passed _ _ _ e .0)
 accepted-fits finish·copy b e = not-false _ (passed _ _ _ e .0)
 accepted-fits finish b e = not-false _ (passed _ _ _ e .0)
 
-few-blocks : (c : Call) (b : Builder) → why c b ≡ Accepted → allBlocks (b .state) ≤ blockLimit
-unfolding blockRoom
-few-blocks c b e = omega (arith, fits-are b (accepted-fits c b e) .blocks)
+got-fits : (b : Builder) (r : ℕ) → whyGet b r ≡ Accepted → fitsState b ≡ true
+unfolding whyGet
+got-fits b r e = not-false _ (passed _ _ _ e .0)
 
--- the block that takes more bytes is the open one, or the next after all
-next-block : (s : State) (n : ℕ) → blockFor s n ≤ allBlocks s
-unfolding roomed sized closed
-next-block s n = by (fitsOpen s n)
-  where
-    by : (t : Bool) → pick t s (sized n (closed s)) .blocks ≤ allBlocks s
-    by true = all-bounds s .0
-    by false = omega arith
+few-blocks : (b : Builder) → fitsState b ≡ true → allBlocks (b .state) ≤ blockLimit
+unfolding blockRoom
+few-blocks b e = omega (arith, fits-are b e .blocks)
 
 untouched : (r : Refusal) (t : Bool) (w : Why) → (w ≡ Accepted → t ≡ false) → thenTried r t w ≡ w
 unfolding refuse
@@ -55,7 +49,8 @@ untouched r t (Refused q) h = refl
 pub numbers-fit : NumbersFit
 numbers-fit =
     record {
-      few = few-blocks;
+      few = λ c b e. few-blocks b (accepted-fits c b e);
+      few·got = λ b r e. few-blocks b (got-fits b r e);
       needless = λ r n b x. untouched r _ (whyValues n b x) (λ e. lt-leb wordEnd (blockFor (b .state) (length x))
-          (omega (arith, next-block (b .state) (length x), few-blocks (add·values n x) b e, block-limit-small)));
+          (omega (arith, room-blocks (b .state) (length x), few-blocks b (accepted-fits (add·values n x) b e), block-limit-small)));
     }

@@ -12,6 +12,7 @@ use Rattle.bounds.specs.declared.Why.{Why}
 use Rattle.bounds.specs.declared.Why.the-variants.{Accepted}
 use Rattle.builder.specs.declared.State.{State}
 use Rattle.builder.specs.State.{Builder, allBlocks, roomed}
+use Rattle.builder.specs.Get.{whyGet}
 use Rattle.builder.specs.Values.{whyValues}
 use Rattle.promise.specs.Calls.{Call, why}
 
@@ -28,8 +29,9 @@ abbrev pub thenTried : Refusal → Bool → Why → Why
 thenTried r t w = ifAccepted w (refuse r t Accepted) w
 
 pub record NumbersFit : Type 0 where
-  -- a state that any call accepts has no more blocks than a column
+  -- a state that a call accepts has no more blocks than a column may have: of the calls that change a builder, and of get_value
   pub few : (c : Call) (b : Builder) → why c b ≡ Accepted → allBlocks (b .state) ≤ blockLimit
-  -- so the test, whatever refusal it gave, would move no verdict: of no builder, no value and no count
+  pub few·got : (b : Builder) (r : ℕ) → whyGet b r ≡ Accepted → allBlocks (b .state) ≤ blockLimit
+  -- so the test, whatever refusal it gave, would move no verdict: for any builder, value and count, those that need no block too
   pub needless : (r : Refusal) (n : ℕ) (b : Builder) (x : List ℕ)
       → thenTried r (leb wordEnd (blockFor (b .state) (length x))) (whyValues n b x) ≡ whyValues n b x

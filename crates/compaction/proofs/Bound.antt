@@ -36,26 +36,26 @@ unfolding pointing
 pointed-same l c f k zero h = refl
 pointed-same l c f k (suc n) h = rw (pointed-same l c f k n (λ i j. h i (omega arith)), h n (omega arith))
 
-points-short : (k : ℕ) (v : List ℕ) → isShort (lengthOf v) ≡ true → points k v ≡ false
+pub points-short : (k : ℕ) (v : List ℕ) → isShort (lengthOf v) ≡ true → points k v ≡ false
 unfolding points
 points-short k v e = rw e
 
-points-long : (k : ℕ) (x : List ℕ) (b o : ℕ) → shortMost < length x → Fits x b o → points k (longView x b o) ≡ eqb b k
+pub points-long : (k : ℕ) (x : List ℕ) (b o : ℕ) → shortMost < length x → Fits x b o → points k (longView x b o) ≡ eqb b k
 unfolding points
 points-long k x b o h f = rw (long-length x b o (f .len), lt-leb (length x) shortMost h, long-block x b o (f .block))
 
 -- another last block changes no other place; an empty one changes none
-getD-other : (bs : List (List ℕ)) (c d : List ℕ) (k : ℕ) → (length bs ≡ k → ⊥) → getD (bs ++ c ∷ []) k [] ≡ getD (bs ++ d ∷ []) k []
-getD-other [] c d zero h = absurd (h refl)
-getD-other [] c d (suc k) h = refl
-getD-other (e ∷ bs) c d zero h = refl
-getD-other (e ∷ bs) c d (suc k) h = getD-other bs c d k (λ q. h (ap suc q))
+pub getD-other : {A : Type 0} (xs : List A) (y z d : A) (k : ℕ) → (length xs ≡ k → ⊥) → getD (xs ++ y ∷ []) k d ≡ getD (xs ++ z ∷ []) k d
+getD-other [] y z d zero h = absurd (h refl)
+getD-other [] y z d (suc k) h = refl
+getD-other (x ∷ xs) y z d zero h = refl
+getD-other (x ∷ xs) y z d (suc k) h = getD-other xs y z d k (λ q. h (ap suc q))
 
-getD-empty : (bs : List (List ℕ)) (k : ℕ) → getD (bs ++ [] ∷ []) k [] ≡ getD bs k []
-getD-empty [] zero = refl
-getD-empty [] (suc k) = refl
-getD-empty (e ∷ bs) zero = refl
-getD-empty (e ∷ bs) (suc k) = getD-empty bs k
+pub getD-empty : {A : Type 0} (xs : List A) (d : A) (k : ℕ) → getD (xs ++ d ∷ []) k d ≡ getD xs k d
+getD-empty [] d zero = refl
+getD-empty [] d (suc k) = refl
+getD-empty (x ∷ xs) d zero = refl
+getD-empty (x ∷ xs) d (suc k) = getD-empty xs d k
 
 -- p k rows point into block k: one into a block past the maximum, none beyond the current one
 record Bound (most : ℕ) (f : Fill) (p : ℕ → ℕ) : Type 0 where
@@ -75,7 +75,10 @@ ready-room most n f p i = by (leb (length (f .now) + n) most) refl
     by true e = record { bound = i; last = λ m. absurd (omega (arith, leb-true (length (f .now) + n) most e)) }
     by false e =
         record {
-          bound = record { over = λ k h. i .over k (rw getD-empty at h); beyond = λ k h. i .beyond k (omega (arith, simp length-append at h)) };
+          bound = record {
+            over = λ k h. i .over k (rw (getD-empty (filled f) [] k) at h);
+            beyond = λ k h. i .beyond k (omega (arith, simp length-append at h));
+          };
           last = λ m. i .beyond (length (filled f)) (simp length-append (omega arith));
         }
 
@@ -95,13 +98,13 @@ module _ (most : ℕ) (x v : List ℕ) (f : Fill) (p : ℕ → ℕ) (h : shortMo
           let z : length (f .done) ≡ k = eqb-true (length (f .done)) k q in
           let n : most < length (f .now) + length x = rw (length-append (f .now) x) at (rw (← z, getD-append-seam) at m) in
           rw (← z) (omega (arith, r .last n))
-      by k m false q = omega (arith, r .bound .over k (rw (getD-other (f .done) (f .now ++ x) (f .now) k (eqb-false (length (f .done)) k q)) at m))
+      by k m false q = omega (arith, r .bound .over k (rw (getD-other (f .done) (f .now ++ x) (f .now) [] k (eqb-false (length (f .done)) k q)) at m))
 
 module _ (most : ℕ) (view value : ℕ → List ℕ) (bs : List (List ℕ)) where
   bound-fills : (n : ℕ) → ((r : ℕ) → r < n → Row bs (view r) (value r)) → Small (fills most view value n)
       → Bound most (fills most view value n) (λ k. pointed k (viewBy most view value) n)
   unfolding fills
-  bound-fills zero h s = record { over = λ k m. absurd (omega (arith, rw (getD-empty [] k) at m)); beyond = λ k m. refl }
+  bound-fills zero h s = record { over = λ k m. absurd (omega (arith, rw (getD-empty {A = List ℕ} [] [] k) at m)); beyond = λ k m. refl }
   bound-fills (suc n) h s =
       by (isShort (lengthOf (view n))) refl s (bound-fills n (λ r l. h r (omega arith)) (small-fills most view value bs n s))
     where
@@ -145,7 +148,7 @@ module _ (most : ℕ) (l : Lent) (c : Column) (out : Lent) (r : Room most l c ou
       ∙ ap length (blocks-at (compacted most l c out) (length (newLens most l c)) k h)
       ∙ block-length d (blockAt (compacted most l c out) k) (omega (arith, s .inside k h, rooms true (compacted most l c out)))
 
-  row-back : (i : ℕ) → i < c .rows → rowView (compacted most l c out) (compactColumn most l c) i ≡ newView most l c i
+  pub row-back : (i : ℕ) → i < c .rows → rowView (compacted most l c out) (compactColumn most l c) i ≡ newView most l c i
   unfolding viewsOf
   row-back i h =
       sym (getD-rows (rowView (compacted most l c out) (compactColumn most l c)) (c .rows) i [] h)

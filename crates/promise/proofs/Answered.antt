@@ -61,16 +61,16 @@ module _ (h : Slices) (r : Finished) (h′ : Slices) (m : Finish·met h r h′) 
 -- ---- compaction and the offset column
 
 module _ (most : ℕ) (b : Buffers) (c : Column) (o : Buffers) (r : compaction.Outcome) (o′ : Buffers) (m : Compact·met most b c o r o′) where
-  compact-why : whyCompact most (lent·as b) c (lent·as o) ≡ Accepted
+  pub compact-why : whyCompact most (lent·as b) c (lent·as o) ≡ Accepted
   unfolding compactOf
   compact-why = sym (ap (λ (a : compaction.Outcome). a .why) (m .wrote .answer)) ∙ m .accepted
 
-  compact-lent : compacted most (lent·as b) c (lent·as o) ≡ lent·as o′
+  pub compact-lent : compacted most (lent·as b) c (lent·as o) ≡ lent·as o′
   compact-lent =
       sym (wrote-lent most (lent·as b) c (o .views) (o .bytes) (o .starts) (o .lens) (o .nulls) r (o′ .views) (o′ .bytes) (o′ .starts) (o′ .lens)
       (o′ .nulls) (m .wrote) (ap isAccepted compact-why))
 
-  compact-column : compactColumn most (lent·as b) c ≡ r .column
+  pub compact-column : compactColumn most (lent·as b) c ≡ r .column
   unfolding compactOf
   compact-column = sym (ap (λ (a : compaction.Outcome). a .column) (m .wrote .answer)
       ∙ ap (λ (y : Why). ifAccepted y (compactColumn most (lent·as b) c) c) compact-why)
@@ -91,7 +91,7 @@ module _ (s : Source) (k : Kind) (o : Buffers) (r : offsets.Outcome) (o′ : Buf
       ∙ ap (λ (y : Why). ifAccepted y (offsetColumn 4 s k) (noOffsets 4 s k)) convert-why)
 
 -- a family over buffers and a column, along two equations
-carried : (P : Lent → Column → Type 0) {l m : Lent} {c d : Column} → l ≡ m → c ≡ d → P l c → P m d
+pub carried : (P : Lent → Column → Type 0) {l m : Lent} {c d : Column} → l ≡ m → c ≡ d → P l c → P m d
 carried P {l} {m} {c} {d} e f p = subst (λ (x : Lent). P x d) e (subst (λ (x : Column). P l x) f p)
 
 pub continued : Continued

@@ -124,7 +124,7 @@ module _ (most : ℕ) (l : Lent) (c : Column) (out : Lent) where
           all-inside m n (s .inside),
         )
 
-    new-lens : lensOfFirst (compacted most l c out) (length (newLens most l c)) ≡ newLens most l c
+    pub new-lens : lensOfFirst (compacted most l c out) (length (newLens most l c)) ≡ newLens most l c
     new-lens = ap (map (λ (b : Block). b .len)) (table-front-is most l c out) ∙ lens-records 0 (newLens most l c)
 
     used : totalBufferBytesUsed l c ≡ number.Is (total (lensOfFirst (compacted most l c out) (compactColumn most l c .blocks)))

@@ -32,10 +32,10 @@ pub finish-answers : (κs : Lfts 6) (a : Dens κs finish-kinds.ps) (z : resT fin
 finish-answers κs a z s p e = record { met = finish-met κs a z s p e; column = p .1 }
 
 -- an accepted compaction
-abbrev compact-of : (κs : Lfts 9) → Dens κs compact-kinds.ps → Buffers
+abbrev pub compact-of : (κs : Lfts 9) → Dens κs compact-kinds.ps → Buffers
 compact-of κs a = record { views = now (a .0); bytes = now (a .1 .0); starts = now (a .1 .1 .0); lens = now (a .1 .1 .1 .0); nulls = now (a .1 .1 .1 .1 .0) }
 
-abbrev compact-in : (κs : Lfts 9) → Dens κs compact-kinds.ps → Buffers
+abbrev pub compact-in : (κs : Lfts 9) → Dens κs compact-kinds.ps → Buffers
 compact-in κs a = record {
   views = now (a .1 .1 .1 .1 .1 .1 .1 .0);
   bytes = now (a .1 .1 .1 .1 .1 .1 .1 .1 .0);
@@ -45,7 +45,7 @@ compact-in κs a = record {
   nulls = now (a .1 .1 .1 .1 .1 .1 .1 .1 .1 .1 .1 .0);
 }
 
-abbrev compact-out : (κs : Lfts 9) → AtExit (endedOf 9 compact-kinds.ps compact-kinds.r) κs → Buffers
+abbrev pub compact-out : (κs : Lfts 9) → AtExit (endedOf 9 compact-kinds.ps compact-kinds.r) κs → Buffers
 compact-out κs s = record {
   views = now (s .1 .1 .1 .1 .1 .1 .1 .0);
   bytes = now (s .1 .1 .1 .1 .1 .1 .1 .1 .0);

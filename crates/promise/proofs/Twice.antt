@@ -4,14 +4,13 @@ use mathlib.Core.Bool.{Bool, true, false}
 use mathlib.Core.List.{List, []}
 use Prim.Native.Nat.{ℕ, zero, suc, _<_}
 use native.Mathlib.Omega.{arith}
-use lib.ListN.{length, getD, take, drop}
+use lib.ListN.{length, take, drop}
 use lib.Seq.{take-at}
 use Rattle.bounds.specs.declared.Why.the-variants.{Accepted}
 use Rattle.views.specs.View.{lengthOf, isShort}
 use Rattle.column.specs.declared.Column.{Column}
 use Rattle.column.specs.Lent.{Lent}
 use Rattle.column.specs.Meaning.{rowView, blocksOf, shownAt}
-use Rattle.column.specs.Laid.{viewsOf}
 use Rattle.showing.specs.Stores.{getD-rows, rows-same}
 use Rattle.showing.specs.Shows.{shows-row}
 use Rattle.laying.specs.WrittenLaws.{length-records, records}
@@ -20,6 +19,7 @@ use Rattle.compaction.specs.Compact.{longOf, rowShown, newView, newLens, whyCom
 use Rattle.compaction.specs.LaidLaws.{view-short, view-long}
 use Rattle.compaction.proofs.Kept.{fills, blocksOut}
 use Rattle.compaction.proofs.Compacted.{room, old-row, views-back, blocks-back, compacted-alike, compacted-shows}
+use Rattle.compaction.proofs.Bound.{row-back}
 use Rattle.promise.specs.Compactions.{Unchanged}
 
 -- what is made of the long rows depends on the rows' lengths and on what is said of each
@@ -63,15 +63,12 @@ module _ (most : ℕ) (l : Lent) (c : Column) (out : Lent) (a : whyCompact most 
   abbrev column : Column
   column = compactColumn most l c
 
-  value-again : (r : ℕ) → r < c .rows → rowShown new column r ≡ rowShown l c r
+  pub value-again : (r : ℕ) → r < c .rows → rowShown new column r ≡ rowShown l c r
   unfolding shownAt
   value-again r h = shows-row (compacted-alike most l c out a) r h .val ∙ getD-rows (shownAt l c) (c .rows) r [] h
 
   view-new : (r : ℕ) → r < c .rows → rowView new column r ≡ newView most l c r
-  unfolding viewsOf
-  view-new r h =
-      sym (getD-rows (rowView new column) (c .rows) r [] h) ∙ ap (λ (vs : List (List ℕ)). getD vs r []) (views-back most l c out (room most l c out a))
-      ∙ getD-rows (newView most l c) (c .rows) r [] h
+  view-new r h = row-back most l c out (room most l c out a) r h
 
   length-again : (r : ℕ) → r < c .rows → lengthOf (rowView new column r) ≡ lengthOf (rowView l c r)
   unfolding shownAt

@@ -1,5 +1,7 @@
 // The program's answer to its input.
 // What is listed at each row is the line that came in: specs/Listed says it, and proofs/Listed proves it of every accepted input.
+#![tactic(auto)]
+
 ghost use Rattle.std.specs.Prelude.{◌≡◌};
 ghost use Rattle.answering.specs.Begins.{refusal, AnswerBegins};
 
@@ -16,7 +18,7 @@ pub const BYTES: usize = 16379;
 pub const NULLS: usize = 342;
 
 // The column to list, and the place at which its listing, or a refusal, begins.
-#[derive(Drop)]
+#[derive(Clone, Copy)]
 pub struct Begun {
     pub column: Column,
     pub place: Place,

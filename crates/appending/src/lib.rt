@@ -1,4 +1,6 @@
 // A block, a view of a completed block, and a whole column added to a builder. The state goes in by value and comes back; the buffers are lent.
+#![tactic(auto)]
+
 ghost use Rattle.std.specs.Prelude.{◌≡◌, true, [], ℕ, ◌+◌, ◌*◌, ◌^◌, ◌≤◌, ◌<◌, eqb, length, set, get_or};
 ghost use Rattle.basis.specs.Pick.{pick};
 ghost use Rattle.std.proofs.Math.Seq.{paste};
@@ -16,7 +18,7 @@ use builder::{Answer, State};
 use column::{Column, Kind};
 
 // What adding a block answers: the verdict beside the state that it leaves, and the block's number, 0 where it is refused.
-#[derive(Drop)]
+#[derive(Clone, Copy)]
 pub struct Placed {
     pub answer: Answer,
     pub block: usize,

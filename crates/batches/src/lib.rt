@@ -1,5 +1,7 @@
 // Instruments of the timing driver, no calls of the library: a whole column in one call, so that what is measured is the work. A column that does not
 // fit answers 0. What all rows share is found once: that the column fits, and whether its blocks lie in the data.
+#![tactic(auto)]
+
 ghost use Rattle.std.specs.Prelude.{◌≡◌, ◌+◌, ◌-◌, ◌%◌, ◌^◌, ◌<◌, ◌≤◌, true, [], ◌==◌};
 ghost use Rattle.basis.specs.Pick.{pick};
 ghost use Rattle.order.specs.Order.{ordering};

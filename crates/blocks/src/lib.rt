@@ -1,5 +1,7 @@
 // The block table lent as a slice of records, as document 01 has it: the record of a block, what a row sees of the table, and reading over it.
 // A function that has the table is proved by hand, so each is thin: it asks `look` what the row sees, and a function over numbers does the work.
+#![tactic(auto)]
+
 ghost use Rattle.std.specs.Prelude.{◌≡◌, true, List, ℕ, ◌+◌, ◌*◌, ◌≤◌, length, get_or};
 ghost use Rattle.views.specs.View.{view_size, view_at, block_of};
 ghost use Rattle.column.specs.declared.Block.{Block};
@@ -76,7 +78,7 @@ pub fn value<'a>(
 }
 
 // The row walk: the lent buffers, the column, and the place of the next row.
-#[derive(Drop)]
+#[derive(Clone, Copy)]
 pub struct Walk<'a> {
     pub views: &'a [u8],
     pub bytes: &'a [u8],
@@ -87,7 +89,7 @@ pub struct Walk<'a> {
 }
 
 // What a walk gives: the value at its place, why it is refused, and the walk after it.
-#[derive(Drop)]
+#[derive(Clone, Copy)]
 pub struct Item<'a> {
     pub value: &'a [u8],
     pub why: Why,

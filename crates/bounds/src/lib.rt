@@ -1,4 +1,6 @@
 // The bounds of every column and state, each under its one name, and why a call refuses.
+#![tactic(auto)]
+
 ghost use Rattle.std.specs.Prelude.{◌≡◌};
 ghost use Rattle.bounds.specs.Refusals.{number_of, row_named, why_number, is_accepted};
 
@@ -15,7 +17,7 @@ pub const BYTE_LIMIT: usize = 16777216;
 pub const MOST_COMPACTION: usize = 2147483647;
 
 // Why a call refuses, in the order of the numbers. BadView holds the lowest bad row, counted from the column's first.
-#[derive(Drop)]
+#[derive(Clone, Copy)]
 pub enum Refusal {
     Setting,
     Fit,
@@ -32,7 +34,7 @@ pub enum Refusal {
 }
 
 // A call's verdict before it writes anything.
-#[derive(Drop)]
+#[derive(Clone, Copy)]
 pub enum Why {
     Accepted,
     Refused(Refusal),

@@ -1,4 +1,6 @@
 // The builder: its settings and state, whether the state fits what is lent, and the steps that its calls share.
+#![tactic(auto)]
+
 ghost use Rattle.std.specs.Prelude.{◌≡◌, true, false, ◌+◌, ◌*◌, ◌/◌, ◌^◌, ◌≤◌, ◌<◌, length, get_or};
 ghost use Rattle.std.proofs.Math.Seq.{paste};
 ghost use Rattle.basis.specs.Pick.{pick, if_lt};
@@ -11,7 +13,7 @@ use column::Kind;
 use growth::Growth;
 
 // Which long values take the view of an earlier row with the same bytes: none, all, or those of at most so many bytes.
-#[derive(Drop)]
+#[derive(Clone, Copy)]
 pub enum Merging {
     Off,
     On,
@@ -19,14 +21,14 @@ pub enum Merging {
 }
 
 // The sizes of new blocks: doubled from one to the next, or always the same.
-#[derive(Drop)]
+#[derive(Clone, Copy)]
 pub enum Sizes {
     Doubled,
     Same(usize),
 }
 
 // What is given at start.
-#[derive(Drop)]
+#[derive(Clone, Copy)]
 pub struct Settings {
     pub kind: Kind,
     pub sizes: Sizes,
@@ -35,7 +37,7 @@ pub struct Settings {
 
 // `blocks` are the completed ones, `base` the bytes before the open block, `fill` the bytes of the open block, where 0 says that there is none,
 // `cap` the open block's capacity, `nulled` whether a null was added.
-#[derive(Drop)]
+#[derive(Clone, Copy)]
 pub struct State {
     pub kind: Kind,
     pub growth: Growth,
@@ -49,7 +51,7 @@ pub struct State {
 }
 
 // A call's verdict, and the state that it leaves: as it came where the call is refused.
-#[derive(Drop)]
+#[derive(Clone, Copy)]
 pub struct Answer {
     pub why: Why,
     pub state: State,

@@ -1,4 +1,6 @@
 // The builder for C and Rust: its state, settings and columns by numbers, its buffers lent. include/tambuyeel.h says the same for C.
+#![tactic(auto)]
+
 ghost use Rattle.std.specs.Prelude.{◌≡◌};
 ghost use Rattle.bounds.specs.Refusals.{why_number, if_accepted};
 ghost use Rattle.column.specs.Lent.{lent};

@@ -1,5 +1,7 @@
 // Values added in a batch to a fresh builder, an instrument for timing: nothing is promised of the whole but that it misuses nothing. Each value is added
 // by `values::add_part`, whose promise is that of the value call.
+#![tactic(auto)]
+
 ghost use Rattle.std.specs.Prelude.{◌≡◌, true, ◌-◌, ◌≤◌, ◌<◌, length};
 ghost use Rattle.bounds.specs.Bounds.{byte_limit};
 ghost use Rattle.builder.specs.State.{held, rows_room, fits_state};

@@ -1,4 +1,6 @@
 // Element codes: whether a value conforms to the code profile, and whether a spreadsheet would take it for a date.
+#![tactic(auto)]
+
 ghost use Rattle.std.specs.Prelude.{◌≡◌, true, [], ◌∷◌, ◌+◌, ◌≤◌, length, drop, take};
 ghost use Rattle.codes.specs.Grammar.{is_digit, number_after};
 ghost use Rattle.codes.specs.Recogniser as spec;
@@ -8,7 +10,7 @@ ghost use Rattle.codes.specs.MonthWords.{is_month_word};
 ghost use Rattle.codes.specs.Marks.{mark_of, mark_number};
 
 // What a row is under the profile: null, no code, a code, a code that a spreadsheet would take for a date.
-#[derive(Drop)]
+#[derive(Clone, Copy)]
 pub enum Mark {
     Null,
     Other,

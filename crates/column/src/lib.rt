@@ -1,5 +1,7 @@
 // A column over lent buffers: its numbers, the records of its blocks, the kind of its values, and how far a view reaches.
 // The leaves over one row count it from row 0 of the views; their callers know that it is there.
+#![tactic(auto)]
+
 ghost use Rattle.std.specs.Prelude.{◌≡◌, true, List, [], ℕ, ◌+◌, ◌*◌, ◌≤◌, length, drop, leb};
 ghost use Rattle.bounds.specs.Bounds.{row_limit};
 ghost use Rattle.views.specs.View.{view_size, short_most, view_at, length_of, body_of};
@@ -10,7 +12,7 @@ ghost use Rattle.column.specs.Spot.{spot_of, spot_in, bytes_at, points_to, Lies,
 ghost use Rattle.column.specs.Truth.{reach_by, reach_of, is_inside, reachable, zeros, honest, of_kind, is_true};
 
 // What the values are: any bytes, or UTF-8.
-#[derive(Drop)]
+#[derive(Clone, Copy)]
 pub enum Kind {
     Binary,
     Text,
@@ -18,14 +20,14 @@ pub enum Kind {
 
 // A block's place in the data.
 #[repr(C)]
-#[derive(Drop)]
+#[derive(Clone, Copy)]
 pub struct Block {
     pub start: usize,
     pub len: usize,
 }
 
 // A column's numbers. `first` counts from row 0 of the views; a slice moves it and shares all buffers.
-#[derive(Drop)]
+#[derive(Clone, Copy)]
 pub struct Column {
     pub first: usize,
     pub rows: usize,
@@ -35,7 +37,7 @@ pub struct Column {
 }
 
 // Where a view's value stands, or what keeps it from being read.
-#[derive(Drop)]
+#[derive(Clone, Copy)]
 pub enum Spot {
     // In the views: from where, how many bytes.
     View(usize, usize),
@@ -48,7 +50,7 @@ pub enum Spot {
 }
 
 // Whether a view's value can be read, or what keeps it from being read.
-#[derive(Drop)]
+#[derive(Clone, Copy)]
 pub enum Reach {
     Inside,
     NoBlock,
@@ -56,7 +58,7 @@ pub enum Reach {
 }
 
 // What a row sees of a block table: how many records there are, and the record of the block that its view names.
-#[derive(Drop)]
+#[derive(Clone, Copy)]
 pub struct Seen {
     pub count: usize,
     pub block: Block,

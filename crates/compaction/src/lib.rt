@@ -1,4 +1,6 @@
 // Compaction: the long values of a column copied in row order into blocks of their own, each within a maximum or holding one value.
+#![tactic(auto)]
+
 ghost use Rattle.std.specs.Prelude.{◌≡◌, true, ◌+◌, ◌*◌, ◌^◌, ◌≤◌, ◌<◌, length};
 ghost use Rattle.std.proofs.Math.Seq.{paste};
 ghost use Rattle.views.specs.View.{view_size, short_most, long_view, view_at, length_of};
@@ -14,14 +16,14 @@ use bounds::{Refusal, Why};
 use column::Column;
 
 // A call's verdict and the new column; refused, the column as it came.
-#[derive(Drop)]
+#[derive(Clone, Copy)]
 pub struct Outcome {
     pub why: Why,
     pub column: Column,
 }
 
 // A call's verdict and the blocks of the new column; refused, they are nothing.
-#[derive(Drop)]
+#[derive(Clone, Copy)]
 pub struct Judged {
     pub why: Why,
     pub blocks: usize,
@@ -29,7 +31,7 @@ pub struct Judged {
 }
 
 // Where the walk stands: the blocks closed, their bytes, and the bytes of the current block.
-#[derive(Drop)]
+#[derive(Clone, Copy)]
 pub struct Stand {
     pub closed: usize,
     pub base: usize,
@@ -37,7 +39,7 @@ pub struct Stand {
 }
 
 // The rows found true before the first that isn't, and where the walk stands after them.
-#[derive(Drop)]
+#[derive(Clone, Copy)]
 pub struct Survey {
     pub good: usize,
     pub stand: Stand,

@@ -1,5 +1,7 @@
 // Compaction over block tables that are lent as slices of records: the source's is read, the new column's is written through.
 // A function that has a table is proved by hand, so each is thin: a function over one record by value does the work of a row and answers what is to be written.
+#![tactic(auto)]
+
 ghost use Rattle.std.specs.Prelude.{◌≡◌, true, List, ℕ, ◌+◌, ◌*◌, ◌^◌, ◌<◌, ◌≤◌, leb, length};
 ghost use Rattle.bounds.specs.Bounds.{row_limit, most_compaction};
 ghost use Rattle.bounds.specs.Refusals.{is_accepted, if_accepted};
@@ -17,7 +19,7 @@ use compaction::{Outcome, Stand};
 
 // Where the pass over the rows stands: the turns left, the row, the walk before it, how many records the new table has; and the record that the last turn
 // leaves to be written, which past the table's end goes nowhere.
-#[derive(Drop)]
+#[derive(Clone, Copy)]
 pub struct Pass {
     pub left: usize,
     pub row: usize,
@@ -28,14 +30,14 @@ pub struct Pass {
 }
 
 // What the call answers, and the pass before its first turn; where it is refused, no turn is left.
-#[derive(Drop)]
+#[derive(Clone, Copy)]
 pub struct Plan {
     pub outcome: Outcome,
     pub first: Pass,
 }
 
 // The lengths of the new column's buffers, the table's in records.
-#[derive(Drop)]
+#[derive(Clone, Copy)]
 pub struct Sizes {
     pub views: usize,
     pub bytes: usize,

@@ -1,4 +1,6 @@
 // Two rows of two columns in byte order by their views, and whether two columns are the same.
+#![tactic(auto)]
+
 ghost use Rattle.std.specs.Prelude.{◌≡◌, ◌&&◌, List, ℕ, ◌+◌, ◌*◌, ◌≤◌, length};
 ghost use Rattle.order.specs.Order.{ordering, cmp};
 ghost use Rattle.views.specs.View.{view_size, view_at, is_short};
@@ -18,14 +20,14 @@ use column::{Column, Seen};
 use order::Order;
 
 // Why a call on two columns refuses, and on which of them.
-#[derive(Drop)]
+#[derive(Clone, Copy)]
 pub enum Verdict {
     Accepted,
     Left(Refusal),
     Right(Refusal),
 }
 
-#[derive(Drop)]
+#[derive(Clone, Copy)]
 pub enum Compared {
     Is(Order),
     Left(Refusal),
@@ -33,13 +35,13 @@ pub enum Compared {
 }
 
 // What two views tell of the order of what they show: the order, or that the whole values decide.
-#[derive(Drop)]
+#[derive(Clone, Copy)]
 pub enum ByViews {
     Is(Order),
     Whole,
 }
 
-#[derive(Drop)]
+#[derive(Clone, Copy)]
 pub enum Sameness {
     Same,
     Different,

@@ -1,5 +1,7 @@
 // What the programs share: standard input read whole, and the status told.
 // A program of this language has no exit status: started with `--status` it writes one digit to descriptor 3, with which its script then ends.
+#![tactic(auto)]
+
 ghost use Rattle.std.specs.Prelude.{◌≡◌, ◌+◌, ◌≤◌, length};
 ghost use Rattle.io.specs.Counts.{IsPrefixLen};
 ghost use Rattle.console.specs.Status.{is_refusal};
@@ -10,7 +12,7 @@ use whole::Place;
 const STATUS_FILENO: i32 = 3;
 
 // How many bytes came, and whether it was a failure that ended them.
-#[derive(Drop)]
+#[derive(Clone, Copy)]
 pub struct Got {
     pub failed: bool,
     pub count: usize,

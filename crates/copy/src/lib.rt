@@ -1,4 +1,6 @@
 // A copy of any length to the front of a slice: by overlapping words to 64 bytes, above through an array, which becomes memmove.
+#![tactic(auto)]
+
 ghost use Rattle.std.specs.Prelude.{◌≡◌, ◌+◌, ◌≤◌, length};
 ghost use Rattle.copy.specs.Over.{over};
 
@@ -62,9 +64,7 @@ fn chunk(src: &[u8], dst: &mut [u8])
     ensures { dst.new ≡ over src.now dst.old }
 {
     let n = src.len();
-    let mut buf = [0u8; CHUNK];
-    bytes::copy(src, &mut buf);
-    bytes::copy(&buf[..n], dst);
+    dst[..n].copy_from_slice(src);
 }
 
 // Any length, a chunk a turn: for bytes that are many.

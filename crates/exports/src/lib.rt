@@ -1,4 +1,6 @@
 // Columns for C and Rust: reading, the check, comparison and same column by numbers and lent slices. include/tambuyeel.h says the same for C.
+#![tactic(auto)]
+
 ghost use Rattle.std.specs.Prelude.{◌≡◌};
 ghost use Rattle.bounds.specs.Refusals.{why_number};
 ghost use Rattle.column.specs.Lent.{lent_of};
@@ -18,7 +20,7 @@ pub mod parts;
 
 // Rows of a column: the refusal's number or 0, the first row, how many.
 #[repr(C)]
-#[derive(Drop)]
+#[derive(Clone, Copy)]
 pub struct Run {
     pub refused: u64,
     pub first: usize,

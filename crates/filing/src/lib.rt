@@ -1,5 +1,7 @@
 // The builder's calls over a block table that is lent as a slice of records, which the caller can write through.
 // A function that has the table is proved by hand, so each is thin: a function over the count of the records does the work and answers what is to be written.
+#![tactic(auto)]
+
 ghost use Rattle.std.specs.Prelude.{◌≡◌, List, ℕ, ◌+◌, ◌*◌, ◌≤◌, ◌<◌, length, set};
 ghost use Rattle.basis.specs.Pick.{if_lt};
 ghost use Rattle.bounds.specs.Bounds.{block_limit};
@@ -25,14 +27,14 @@ use column::{Block, Spot};
 use finishing::Finished;
 
 // A record, and where in the table it goes; past the table's end it goes nowhere.
-#[derive(Drop)]
+#[derive(Clone, Copy)]
 pub struct Entry {
     pub at: usize,
     pub block: Block,
 }
 
 // What a finish answers, and the record that it leaves to be written.
-#[derive(Drop)]
+#[derive(Clone, Copy)]
 pub struct Ended {
     pub finished: Finished,
     pub at: usize,
@@ -401,7 +403,7 @@ pub fn get_value<'a>(
 }
 
 // What adding a block answers, and the records that it leaves to be written: the open block's, if any, and that of the new one.
-#[derive(Drop)]
+#[derive(Clone, Copy)]
 pub struct Laid {
     pub placed: Placed,
     pub at: usize,

@@ -1,5 +1,7 @@
 // A column and a view of a completed block added to a builder, its block table, and the column's, lent as slices of records.
 // A function that has a table is proved by hand, so each is thin: a function over the count of the records does the work and answers what is to be written.
+#![tactic(auto)]
+
 ghost use Rattle.std.specs.Prelude.{◌≡◌, true, List, [], ℕ, ◌+◌, ◌*◌, ◌≤◌, length, set, get_or};
 ghost use Rattle.std.proofs.Math.Seq.{paste};
 ghost use Rattle.bounds.specs.Bounds.{row_limit, block_limit};
@@ -17,7 +19,7 @@ use builder::{Answer, State};
 use column::{Block, Column};
 
 // What adding a column answers, the record that it leaves to be written, and where the column's blocks go: how many, from which number and which place on.
-#[derive(Drop)]
+#[derive(Clone, Copy)]
 pub struct Poured {
     pub answer: Answer,
     pub at: usize,

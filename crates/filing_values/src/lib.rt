@@ -1,5 +1,7 @@
 // The value calls of a builder over a block table that is lent as a slice of records, which the caller can write through: a value, once or n times,
 // and the search of the merge table that it needs.
+#![tactic(auto)]
+
 ghost use Rattle.std.specs.Prelude.{◌≡◌, Bool, true, List, ℕ, ◌+◌, ◌-◌, ◌*◌, ◌≤◌, ◌<◌, length, set, get_or};
 ghost use Rattle.basis.specs.Pick.{pick};
 ghost use Rattle.bounds.specs.Bounds.{block_limit};
@@ -24,7 +26,7 @@ use filing::Entry;
 use merging::Found;
 
 // What adding a value answers, and the record that it leaves to be written.
-#[derive(Drop)]
+#[derive(Clone, Copy)]
 pub struct Filed {
     pub answer: Answer,
     pub at: usize,
@@ -261,7 +263,7 @@ fn value_with(
 }
 
 // Where a search of the merge table stands: its place, how many places are left, and what it answers where none is.
-#[derive(Drop)]
+#[derive(Clone, Copy)]
 pub struct Quest {
     pub place: usize,
     pub left: usize,

@@ -1,4 +1,6 @@
 // A builder's start, its two finishes, and the value of a row while it is built. The state goes in by value and comes back; the buffers are lent.
+#![tactic(auto)]
+
 ghost use Rattle.std.specs.Prelude.{◌≡◌, true, false, ◌&&◌, ◌<◌, leb, length, replicate};
 ghost use Rattle.bounds.specs.Bounds.{byte_limit};
 ghost use Rattle.views.specs.View.{view_at};
@@ -19,7 +21,7 @@ use column::{Block, Column, Kind, Spot};
 use growth::Growth;
 
 // What a finish answers: its verdict beside the state that it leaves, and the column that was built, none where it is refused.
-#[derive(Drop)]
+#[derive(Clone, Copy)]
 pub struct Finished {
     pub answer: Answer,
     pub column: Column,

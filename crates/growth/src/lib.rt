@@ -1,4 +1,6 @@
 // How the next block's size is chosen: always the same, or the next one on the wall sheet of sizes.
+#![tactic(auto)]
+
 ghost use Rattle.std.specs.Prelude.{◌≡◌};
 ghost use Rattle.growth.specs.Growing.{fits_growth, step_of};
 ghost use Rattle.growth.specs.declared.Growth.TheVariants.{Doubling};
@@ -13,13 +15,13 @@ const SHEET: [usize; 8] = [
     16384, 32768, 65536, 131072, 262144, 524288, 1048576, 2097152,
 ];
 
-#[derive(Drop)]
+#[derive(Clone, Copy)]
 pub enum Growth {
     Fixed(usize),
     Doubling(usize),
 }
 
-#[derive(Drop)]
+#[derive(Clone, Copy)]
 pub struct Step {
     pub why: Why,
     pub growth: Growth,

@@ -1,4 +1,6 @@
 // A hash of byte strings of eight bytes and more, by words: two lanes, so that two multiplications go on at a time.
+#![tactic(auto)]
+
 ghost use Rattle.std.specs.Prelude.{◌≡◌, ◌*◌, ◌%◌, ◌^◌, ◌≤◌, length};
 ghost use Rattle.hash.specs.Hash.{rotl, mixed, hash_of};
 

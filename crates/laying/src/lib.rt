@@ -1,4 +1,6 @@
 // What compaction and the offset column share: whether buffers have room for a column that is written from their front on.
+#![tactic(auto)]
+
 ghost use Rattle.std.specs.Prelude.{◌≡◌};
 ghost use Rattle.column.specs.Lent.{lent};
 ghost use Rattle.laying.specs.Rooms.{why_rooms};

@@ -1,4 +1,6 @@
 // Instruments, not calls of the library: the leaves in batches, for bench/ to time. What is measured is the work, not the call.
+#![tactic(auto)]
+
 ghost use Rattle.std.specs.Prelude.{◌≡◌, ◌+◌, ◌/◌};
 ghost use Rattle.basis.specs.Pick.{pick};
 ghost use Rattle.order.specs.Order.{ordering};

@@ -1,4 +1,6 @@
 // The pieces of a listing's text, each written into a lent buffer.
+#![tactic(auto)]
+
 ghost use Rattle.std.specs.Prelude.{◌≡◌, [], ◌∷◌, ◌+◌, ◌*◌, ◌-◌, ◌≤◌, ◌<◌, length};
 ghost use Rattle.listing.specs.Text.{decimal, text_from, item_text, number_line, opening, row_open, row_close, row_null, gap_line, closing, refused_line};
 ghost use Rattle.listing.specs.Put.{Put, HoldsText, Rest};

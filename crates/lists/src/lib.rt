@@ -1,4 +1,6 @@
 // Words and buffers of the fixed lists, as the programs that replay them read them. Instruments: their contracts say no more than that they are safe and end.
+#![tactic(auto)]
+
 ghost use Rattle.std.specs.Prelude.{◌+◌, ◌*◌, ◌≤◌, length};
 
 use column::{Column, Kind};
@@ -11,7 +13,7 @@ pub fn word(from: &[u8], k: usize) -> usize
 }
 
 // A column's numbers and the lengths of its lent buffers.
-#[derive(Drop)]
+#[derive(Clone, Copy)]
 pub struct Shape {
     pub column: Column,
     pub views: usize,

@@ -1,6 +1,8 @@
 // The mark of each row of a column, and how many rows have each mark, over the block table lent as a slice of records.
 // A function that has the table is proved by hand, so each is thin: it asks for the record of the block that a row names, and a function over numbers
 // does the work.
+#![tactic(auto)]
+
 ghost use Rattle.std.specs.Prelude.{◌≡◌, true, List, ℕ, ◌+◌, ◌<◌, length};
 ghost use Rattle.column.specs.declared.Block.{Block};
 ghost use Rattle.column.specs.Lent.{buffers, fits};
@@ -15,7 +17,7 @@ use column::{Block, Column, Seen};
 use marks::{Marked, Tallied, Tally};
 
 // A pass over the rows: how many records the table has, the row that comes next, how many are left, and the marks of those before it.
-#[derive(Drop)]
+#[derive(Clone, Copy)]
 pub struct Pass {
     pub count: usize,
     pub row: usize,

@@ -1,4 +1,6 @@
 // The marks of element codes for C and Rust: a row's mark, and how many rows have each, by numbers and lent slices. include/tambuyeel.h says the same for C.
+#![tactic(auto)]
+
 ghost use Rattle.std.specs.Prelude.{◌≡◌};
 ghost use Rattle.column.specs.Lent.{lent_of};
 ghost use Rattle.marks.specs.Marking.{mark_at, marks_of};
@@ -10,7 +12,7 @@ use numbers::Counted;
 
 // How many rows have each mark: 0 or the refusal's number, the row that refusal 11 names, the nulls, the rows that are no codes, the codes, the dates.
 #[repr(C)]
-#[derive(Drop)]
+#[derive(Clone, Copy)]
 pub struct Marks {
     pub refused: u64,
     pub row: usize,

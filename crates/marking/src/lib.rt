@@ -1,4 +1,6 @@
 // The answer of `shelfmarks`, written piece by piece into a lent buffer: what is written and what is left are the whole, piece after piece.
+#![tactic(auto)]
+
 ghost use Rattle.std.specs.Prelude.{◌≡◌};
 ghost use Rattle.column.specs.Lent.{lent_of};
 ghost use Rattle.listing.specs.Put.{HoldsText};

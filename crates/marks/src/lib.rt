@@ -1,5 +1,7 @@
 // The mark of each row of a column under the code profile, and how many rows have each mark.
 // Every public call tests its own inputs: none asks anything of its caller.
+#![tactic(auto)]
+
 ghost use Rattle.std.specs.Prelude.{◌≡◌, true, List, ◌+◌, ◌*◌, ◌<◌, length};
 ghost use Rattle.basis.specs.Pick.{pick};
 ghost use Rattle.bounds.specs.Bounds.{row_limit};
@@ -18,14 +20,14 @@ use column::{Column, Seen, Spot};
 use reading::Located;
 
 // A row's mark that was asked for.
-#[derive(Drop)]
+#[derive(Clone, Copy)]
 pub enum Marked {
     Is(Mark),
     Refused(Refusal),
 }
 
 // How many rows have each mark.
-#[derive(Drop)]
+#[derive(Clone, Copy)]
 pub struct Tally {
     pub nulls: usize,
     pub others: usize,
@@ -33,7 +35,7 @@ pub struct Tally {
     pub dates: usize,
 }
 
-#[derive(Drop)]
+#[derive(Clone, Copy)]
 pub enum Tallied {
     Are(Tally),
     Refused(Refusal),

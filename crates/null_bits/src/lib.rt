@@ -1,5 +1,7 @@
 // Null bits: a row's bit read and written, and nulls counted over a run of rows by ones in masked bytes and words of the map.
 // Leaves: their callers know that the rows lie in the map. A column without a map has no nulls.
+#![tactic(auto)]
+
 ghost use Rattle.std.specs.Prelude.{◌≡◌, true, ◌+◌, ◌*◌, ◌/◌, ◌%◌, ◌^◌, ◌≤◌, ◌<◌, length};
 ghost use Rattle.null_bits.specs.Bits.{is_valid, valid_at, count_nulls, put_bit, Counted};
 

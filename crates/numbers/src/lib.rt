@@ -1,4 +1,6 @@
 // Columns, verdicts and places as the numbers that C and Rust see: what the exported calls share.
+#![tactic(auto)]
+
 ghost use Rattle.std.specs.Prelude.{◌≡◌};
 ghost use Rattle.bounds.specs.Refusals.{if_accepted};
 ghost use Rattle.numbers.specs.Numbers.{kind_from, column_from, kind_number, flag, column_numbers, why_told, place_of};
@@ -8,7 +10,7 @@ use column::{Column, Kind, Spot};
 
 // A verdict: 0 or the refusal's number, and the row that refusal 11 names.
 #[repr(C)]
-#[derive(Drop)]
+#[derive(Clone, Copy)]
 pub struct Told {
     pub number: u64,
     pub row: usize,
@@ -16,7 +18,7 @@ pub struct Told {
 
 // A number: 0 or the refusal's number, and what was asked for.
 #[repr(C)]
-#[derive(Drop)]
+#[derive(Clone, Copy)]
 pub struct Counted {
     pub refused: u64,
     pub number: usize,
@@ -24,7 +26,7 @@ pub struct Counted {
 
 // A part of a buffer: 0 or the refusal's number, which buffer (0 the views, 1 the data), from where, how many bytes.
 #[repr(C)]
-#[derive(Drop)]
+#[derive(Clone, Copy)]
 pub struct Place {
     pub refused: u64,
     pub buffer: u64,

@@ -1,4 +1,6 @@
 // A column from the offset layout: one more offset than rows, and the bytes that they cut. Offsets are of four bytes, or of eight in the Large form.
+#![tactic(auto)]
+
 ghost use Rattle.std.specs.Prelude.{◌≡◌, true, ◌&&◌, ℕ, ◌+◌, ◌*◌, ◌/◌, ◌^◌, ◌≤◌, ◌<◌, ltb, length};
 ghost use Rattle.std.proofs.Math.Seq.{paste};
 ghost use Rattle.views.specs.View.{view_size};
@@ -13,7 +15,7 @@ use bounds::{Refusal, Why};
 use column::{Column, Kind};
 
 // A call's verdict and the new column; refused, a column without rows.
-#[derive(Drop)]
+#[derive(Clone, Copy)]
 pub struct Outcome {
     pub why: Why,
     pub column: Column,

@@ -1,11 +1,13 @@
 // The byte order of two slices, and whether they are the same: equal runs of bytes are skipped, then words are compared, the last one
 // where the shorter slice ends, over bytes that were compared before.
+#![tactic(auto)]
+
 ghost use Rattle.std.specs.Prelude.{◌≡◌, true, false, length};
 ghost use Prim.Native.Nat.{◌+◌, ◌≤◌, ◌<◌, min, compare};
 ghost use Rattle.words.specs.Words.{be_at};
 ghost use Rattle.order.specs.Order.{cmp, same, short_order, ordering, Agree};
 
-#[derive(Drop)]
+#[derive(Clone, Copy)]
 pub enum Order {
     Less,
     Equal,

@@ -1,5 +1,7 @@
 // The offset column over a block table that is lent as a slice of records, which the caller can write through.
 // A function that has the table is proved by hand, so it is thin: a function over the count of the records does the work and answers what is to be written.
+#![tactic(auto)]
+
 ghost use Rattle.std.specs.Prelude.{◌≡◌, List, ◌≤◌, eqb, length, set, take};
 ghost use Rattle.basis.specs.Pick.{pick};
 ghost use Rattle.bounds.specs.Refusals.{if_accepted};
@@ -13,14 +15,14 @@ use column::{Block, Kind};
 use offsets::Outcome;
 
 // Whether the source has a map, and the new column's kind.
-#[derive(Drop)]
+#[derive(Clone, Copy)]
 pub struct Layout {
     pub mapped: bool,
     pub kind: Kind,
 }
 
 // What a call answers, and the record that it leaves to be written; past the table's end it goes nowhere.
-#[derive(Drop)]
+#[derive(Clone, Copy)]
 pub struct Made {
     pub outcome: Outcome,
     pub at: usize,

@@ -1,4 +1,6 @@
 // Compaction and the offset column for C and Rust: a column by numbers and lent slices into lent slices and numbers. include/tambuyeel.h says the same for C.
+#![tactic(auto)]
+
 ghost use Rattle.std.specs.Prelude.{not, eqb};
 ghost use Rattle.column.specs.Lent.{lent};
 ghost use Rattle.offsets.specs.Offsets.{source};

@@ -1,5 +1,7 @@
 // What a column's rows show: values, prefixes, suffixes, lengths, null bits, null runs, slices, totals, the row walk.
 // Every call tests its own inputs: none asks anything of its caller.
+#![tactic(auto)]
+
 ghost use Rattle.std.specs.Prelude.{◌≡◌, true, false, List, [], ◌+◌, ◌*◌, ◌/◌, ◌≤◌, ◌<◌, length};
 ghost use Rattle.basis.specs.Pick.{pick};
 ghost use Rattle.null_bits.specs.Bits as bits;
@@ -16,41 +18,41 @@ use bounds::{Refusal, Why};
 use column::{Column, Seen, Spot};
 
 // A number that was asked for.
-#[derive(Drop)]
+#[derive(Clone, Copy)]
 pub enum Number {
     Is(usize),
     Refused(Refusal),
 }
 
 // A row's null bit.
-#[derive(Drop)]
+#[derive(Clone, Copy)]
 pub enum Bit {
     Valid,
     Null,
     Refused(Refusal),
 }
 
-#[derive(Drop)]
+#[derive(Clone, Copy)]
 pub enum Sliced {
     Is(Column),
     Refused(Refusal),
 }
 
 // A place in a row walk: the next row.
-#[derive(Drop)]
+#[derive(Clone, Copy)]
 pub struct Cursor {
     pub at: usize,
 }
 
 // Why a walk doesn't go on, and the next place: the same one where it doesn't.
-#[derive(Drop)]
+#[derive(Clone, Copy)]
 pub struct Step {
     pub why: Why,
     pub next: Cursor,
 }
 
 // Where a row's value stands, or why it is refused.
-#[derive(Drop)]
+#[derive(Clone, Copy)]
 pub enum Located {
     At(Spot),
     Refused(Refusal),

@@ -1,5 +1,7 @@
 // Instruments of tests, no part of the library: the calls over a table of records, by numbers as exports and builder_exports have them, for the programs of
 // the gate and for drivers in Rust. A table of more records than through_records holds is answered with TOO_MANY, and nothing is done.
+#![tactic(auto)]
+
 use numbers::{Counted, Told};
 
 // More than any refusal's number.

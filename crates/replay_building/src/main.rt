@@ -3,11 +3,13 @@
 // After each call its answer, the whole state and a column answered are compared, and after a group every lent buffer. Writes how many groups, calls
 // and refusals there were,
 // how many calls and how many groups' buffers differed, the first such call, and whether the list ended inside a group.
+#![tactic(auto)]
+
 mod input;
 
 use libc::STDOUT_FILENO;
 
-#[derive(Drop)]
+#[derive(Clone, Copy)]
 struct Tally {
     groups: u64,
     calls: u64,
@@ -20,7 +22,7 @@ struct Tally {
 }
 
 // What a call says: the refusal's number, the row that it names, a number, and a part: 1 of the views or 2 of the data, where it begins, its length.
-#[derive(Drop)]
+#[derive(Clone, Copy)]
 struct Said {
     refusal: usize,
     row: usize,

@@ -1,5 +1,7 @@
 // Replays the fixed lists of the leaves' answers: views, UTF-8, null runs, growth and byte order. A list's record is a head of words and then bytes.
 // Writes for each list how many records were answered as the list has them, how many otherwise, and whether the list ended inside a record.
+#![tactic(auto)]
+
 ghost use Rattle.std.specs.Prelude.{◌+◌, ◌<◌, ◌≤◌, length};
 
 use growth::Growth;
@@ -21,7 +23,7 @@ const ORDER: usize = 4;
 const BODY: usize = 128;
 
 // The words of a record's head, as many as its list has, then zeros.
-#[derive(Drop)]
+#[derive(Clone, Copy)]
 struct Head {
     a: u64,
     b: u64,
@@ -30,7 +32,7 @@ struct Head {
     e: u64,
 }
 
-#[derive(Drop)]
+#[derive(Clone, Copy)]
 enum Turn {
     Right,
     Wrong,
@@ -260,7 +262,7 @@ fn one(fd: i32, list: usize) -> Turn {
     judge_first(fd, list, h, &mut body, n)
 }
 
-#[derive(Drop)]
+#[derive(Clone, Copy)]
 struct Tally {
     left: u64,
     right: u64,

@@ -2,6 +2,8 @@
 // of each row that is asked for and how many rows have each mark. Columns and rows are asked for twice, the second time over a table of records.
 // Writes how many texts there were, how many of these are no codes, codes and dates, how many columns and rows were asked for, how many answers are others than
 // the lists', the first of those, and whether a list ended inside a record.
+#![tactic(auto)]
+
 use column::Column;
 use libc::STDOUT_FILENO;
 use marks::{Marked, Tallied};
@@ -9,7 +11,7 @@ use marks::{Marked, Tallied};
 // No text has more bytes.
 const MOST: usize = 64;
 
-#[derive(Drop)]
+#[derive(Clone, Copy)]
 struct Tally {
     texts: u64,
     others: u64,

@@ -17,7 +17,7 @@ pub fn word(from: &[u8], k: usize) -> usize
 }
 
 // The lengths of lent buffers.
-#[derive(Drop)]
+#[derive(Clone, Copy)]
 pub struct Sizes {
     pub views: usize,
     pub bytes: usize,

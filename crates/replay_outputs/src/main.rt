@@ -1,6 +1,8 @@
 // Replays data/compaction.bin and data/offsets.bin, the fixed lists of answers that oracle/README.md lays out: the refusal, the row that it names, the new
 // column, and every byte of the output's buffers. Writes for each list how many records there were, how many were accepted, how many were answered
 // otherwise, the first of those, and whether the list ended inside a record. Each is also asked for over tables of records.
+#![tactic(auto)]
+
 mod input;
 
 ghost use Rattle.std.specs.Prelude.{◌≡◌, true, ◌≤◌, length};
@@ -16,7 +18,7 @@ const BEFORE: u8 = 0xaa;
 
 const BEFORE_NUMBER: usize = 12297829382473034410;
 
-#[derive(Drop)]
+#[derive(Clone, Copy)]
 struct Tally {
     records: u64,
     accepted: u64,
@@ -27,7 +29,7 @@ struct Tally {
 }
 
 // What a call says: its verdict and the new column.
-#[derive(Drop)]
+#[derive(Clone, Copy)]
 struct Said {
     why: Why,
     column: Column,

@@ -3,6 +3,8 @@
 // Value, check, comparison and the walk are also asked over a table of records, and a column that is valid is walked there from its first row to its end.
 // Writes how many groups and questions there were, how many were also asked over records, how many columns were walked, how many questions were answered
 // otherwise, the first of those, and whether the list ended inside a group.
+#![tactic(auto)]
+
 mod input;
 mod said;
 
@@ -11,7 +13,7 @@ use libc::STDOUT_FILENO;
 use said::Said;
 use through_walks::Stepped;
 
-#[derive(Drop)]
+#[derive(Clone, Copy)]
 struct Tally {
     groups: u64,
     questions: u64,

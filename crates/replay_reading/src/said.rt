@@ -5,7 +5,7 @@ use comparison::{Compared, Sameness};
 use order::Order;
 use reading::{Bit, Number, Sliced};
 
-#[derive(Drop)]
+#[derive(Clone, Copy)]
 pub struct Said {
     pub refusal: usize,
     pub row: usize,

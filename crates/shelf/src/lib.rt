@@ -1,4 +1,6 @@
 // The program's input: its lines, the first bad one, and the column that they make.
+#![tactic(auto)]
+
 ghost use Rattle.std.specs.Prelude.{◌≡◌, ◌+◌, ◌-◌, ◌≤◌, ◌<◌, min, length, drop};
 ghost use Rattle.bytes.specs.Bytes.{index_of, slice};
 ghost use Rattle.column.specs.Lent.{lent};
@@ -12,7 +14,7 @@ use builder::{Merging, Settings, Sizes, State};
 use column::{Column, Kind};
 
 // What a line says: a value, a null row, or neither.
-#[derive(Drop)]
+#[derive(Clone, Copy)]
 pub enum Line {
     Code,
     Null,
@@ -49,7 +51,10 @@ fn line_end(s: &[u8], at: usize) -> usize
     requires { at ≤ length s.now }
     ensures { (result ≡ at + index_of 10 (slice at (length s.now) s.now)) × (at ≤ result) × (result ≤ length s.now) }
 {
-    bytes::scan::find(s, at, s.len(), 10)
+    match s[at..].iter().position(|b| *b == 10) {
+        Some(k) => at + k,
+        None => s.len(),
+    }
 }
 
 // The start of the next line: past the line feed, if there is one.
@@ -184,7 +189,7 @@ pub fn build(
 }
 
 // What stands on a line of a listing: a row, or how many rows aren't shown.
-#[derive(Drop)]
+#[derive(Clone, Copy)]
 pub enum Item {
     Row(usize),
     Gap(usize),

@@ -1,5 +1,7 @@
 // Answers each input of a list of files and of a list of vectors by the functions that `shelflist` is made of, and holds the answer to the one that is on file.
 // Two arguments name an input and its answer. vectors.bin has records: three words, lawful or not, the bytes of the input and of the answer; then both.
+#![tactic(auto)]
+
 ghost use Rattle.std.specs.Prelude.{◌≤◌, length};
 ghost use Rattle.io.specs.Counts.{IsPrefixLen};
 

@@ -1,6 +1,8 @@
 // Lists the column that the lines of standard input make: reads, calls, and writes piece by piece.
 // Where a read or a write fails it stops and says so on standard error.
 // Its status, which `--status` asks for (crate `console`): 0 for a listing, 1 for a refused input, 2 where a read or a write failed.
+#![tactic(auto)]
+
 use column::Column;
 use libc::STDOUT_FILENO;
 use whole::Place;

@@ -1,6 +1,8 @@
 // Writes the mark of each row of the column that the lines of standard input make, and the four counts: reads, calls, and writes piece by piece.
 // Where a read or a write fails it stops and says so on standard error.
 // Its status, which `--status` asks for (crate `console`): 0 for marks, 1 for a refused input, 2 where a read or a write failed.
+#![tactic(auto)]
+
 ghost use Rattle.std.specs.Prelude.{◌≡◌};
 ghost use Rattle.column.specs.Lent.{lent_of};
 ghost use Rattle.marking.specs.Text.{marked_answer};

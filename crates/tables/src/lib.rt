@@ -1,4 +1,6 @@
 // The block table lent as a slice of records: how many there are, one read, one written. What stands over such a table asks no more of it than this.
+#![tactic(auto)]
+
 ghost use Rattle.std.specs.Prelude.{◌≡◌, length, get_or, set};
 
 use column::Block;

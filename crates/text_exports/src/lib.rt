@@ -1,4 +1,6 @@
 // The view of a value and the UTF-8 question, for callers in C and Rust. A slice is a pointer and its count of bytes.
+#![tactic(auto)]
+
 ghost use Rattle.std.specs.Prelude.{◌≡◌};
 ghost use Rattle.bounds.specs.Refusals.{why_number, if_accepted};
 ghost use Rattle.views.specs.View.{make_view};
@@ -9,7 +11,7 @@ use bounds::Why;
 
 // Is a text well formed, 1 or 0, and where does its first ill-formed sequence begin? In a well-formed text the place is its end.
 #[repr(C)]
-#[derive(Drop)]
+#[derive(Clone, Copy)]
 pub struct Text {
     pub yes: u64,
     pub place: usize,

@@ -1,5 +1,7 @@
 // Instruments of tests, no part of the library: marks over a table of records, asked by a table of two number slices, as through_records has the calls. Their
 // contracts say no more than that they are safe and end.
+#![tactic(auto)]
+
 ghost use Rattle.std.specs.Prelude.{◌≤◌};
 
 use column::Column;

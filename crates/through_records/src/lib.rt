@@ -1,6 +1,8 @@
 // Instruments of tests, no part of the library: the calls over a table of records, asked by a table of two number slices.
 // The first `n` records are gathered into a local array and lent to the call; a call that writes records scatters them into two other slices. They are
 // there to run the proved calls, so their contracts say no more than that they are safe and end: what is answered is compared with lists of answers.
+#![tactic(auto)]
+
 ghost use Rattle.std.specs.Prelude.{◌≤◌};
 
 use appending::Placed;

@@ -1,5 +1,7 @@
 // An instrument of tests, no part of the library: the row walk over a table of records, asked by a table of two number slices, as through_records has the
 // calls. Its contract says no more than that it is safe and ends.
+#![tactic(auto)]
+
 ghost use Rattle.std.specs.Prelude.{◌≤◌};
 
 use blocks::Walk;
@@ -7,7 +9,7 @@ use bounds::Why;
 use column::Column;
 
 // What a walk gives at a place: why the value is refused, whether it is the one that was asked for, and the place after it.
-#[derive(Drop)]
+#[derive(Clone, Copy)]
 pub struct Stepped {
     pub why: Why,
     pub same: bool,

@@ -1,4 +1,6 @@
 // A value n times for C and Rust: the call of builder_exports in an object of its own.
+#![tactic(auto)]
+
 ghost use Rattle.builder.specs.Values.{why_values, put_values};
 ghost use Rattle.builder_exports.specs.Numbers.{Exported};
 

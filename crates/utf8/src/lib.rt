@@ -1,10 +1,12 @@
 // Well-formed UTF-8, and where the first ill-formed sequence begins.
+#![tactic(auto)]
+
 ghost use Rattle.std.specs.Prelude.{◌≡◌, ◌+◌, ◌-◌, ◌≤◌, ◌<◌, length, drop, get_or};
 ghost use Rattle.utf8.specs.Table.{table, led, led_by, within, in_ranges, front_length, first_bad, well_formed, ◌‥◌};
 ghost use Rattle.utf8.specs.Lead.{tails_of, tails, nexts, Passed};
 
 // What a lead byte says: how many bytes its sequence has, and the bounds of the second one.
-#[derive(Drop)]
+#[derive(Clone, Copy)]
 pub enum Lead {
     One,
     Two(u8, u8),

@@ -1,4 +1,6 @@
 // Tries every string of one, two and three bytes and writes how many of each are well-formed UTF-8.
+#![tactic(auto)]
+
 ghost use Rattle.std.specs.Prelude.{◌≤◌};
 
 use libc::STDOUT_FILENO;

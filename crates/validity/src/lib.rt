@@ -1,4 +1,6 @@
 // The validity check of a column: all its views are true and its blocks lie in the data.
+#![tactic(auto)]
+
 ghost use Rattle.std.specs.Prelude.{◌≡◌};
 ghost use Rattle.column.specs.Lent.{lent_of};
 ghost use Rattle.validity.specs.Check.{why_invalid};

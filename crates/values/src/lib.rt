@@ -1,4 +1,6 @@
 // The calls that add a value, a value n times, or a null, and the search of the merge table. The state goes in by value and comes back; the buffers are lent.
+#![tactic(auto)]
+
 ghost use Rattle.std.specs.Prelude.{◌≡◌, true, false, not, ◌&&◌, ℕ, suc, ◌+◌, ◌-◌, ◌*◌, ◌^◌, ◌≤◌, ◌<◌, max, leb, eqb, length, take, drop};
 ghost use Rattle.std.proofs.Math.Seq.{paste};
 ghost use Rattle.basis.specs.Pick.{pick};

@@ -1,4 +1,6 @@
 // View records: sixteen bytes a row, their fields read as words and their bytes written as words.
+#![tactic(auto)]
+
 ghost use Rattle.std.specs.Prelude.{◌≡◌, ◌+◌, ◌-◌, ◌*◌, ◌%◌, ◌^◌, min, ◌≤◌, ◌<◌, length, take, drop};
 ghost use Rattle.std.proofs.Math.Seq.{paste};
 ghost use Rattle.words.specs.Words.{word_at};
@@ -37,7 +39,7 @@ pub fn view_offset(views: &[u8], row: usize) -> usize
     words::le32(views, VIEW_SIZE * row + 12) as usize
 }
 
-#[derive(Drop)]
+#[derive(Clone, Copy)]
 struct Pair {
     lo: u64,
     hi: u64,
@@ -160,7 +162,7 @@ pub fn put_view(b: &mut [u8], o: usize, v: &[u8], block: u32, offset: u32)
 }
 
 // A view beside why it wasn't made; refused, its bytes are zeros.
-#[derive(Drop)]
+#[derive(Clone, Copy)]
 pub struct Made {
     pub why: Why,
     pub view: [u8; 16],

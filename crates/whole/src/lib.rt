@@ -1,4 +1,6 @@
 // The program's answer, written piece by piece into a lent buffer: what is written and what is left are the whole, piece after piece.
+#![tactic(auto)]
+
 ghost use Rattle.std.specs.Prelude.{◌≡◌, ◌<◌};
 ghost use Rattle.column.specs.Lent.{lent};
 ghost use Rattle.shelf.specs.Items.{item_count, item_at};
@@ -13,7 +15,7 @@ use reading::{Bit, Number};
 use shelf::Item;
 
 // Where the writing of an answer stands: before a refusal, before a listing, before its line k, in line k before byte `at` of its value, or at the end.
-#[derive(Drop)]
+#[derive(Clone, Copy)]
 pub enum Place {
     Refused(usize),
     Opening,
@@ -23,7 +25,7 @@ pub enum Place {
 }
 
 // The place after a piece, and how many bytes the piece has.
-#[derive(Drop)]
+#[derive(Clone, Copy)]
 pub struct Piece {
     pub place: Place,
     pub written: usize,

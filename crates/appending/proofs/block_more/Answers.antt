@@ -1,0 +1,6 @@
+use native.Mathlib.Numerals.{add-one}
+use borrow.Author.Rules.{rules}
+use Rattle.appending.proofs.block_more.Goals as goal
+
+pub returns : goal.returns
+returns c = rw (add-one _)

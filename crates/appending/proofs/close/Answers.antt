@@ -1,0 +1,7 @@
+use Rattle.builder.specs.State.{closed}
+use borrow.Author.Rules.{rules}
+use Rattle.appending.proofs.close.Goals as goal
+
+pub returns : goal.returns
+unfolding closed
+returns c = rw c.all_blocks.ensures

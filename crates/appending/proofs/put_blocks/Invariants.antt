@@ -1,0 +1,22 @@
+use Rattle.appending.specs.ColumnLaws.{block-end, end_is, total-below, block-is, block-length, end_more, data-more, starts_more, lens-more}
+use Rattle.column.specs.Room.{bare}
+use Rattle.builder.specs.Others.{block_bytes}
+use lib.Seq.{paste}
+use Rattle.appending.specs.Laying.{end_from, put_data, put_starts, put_lens}
+use mathlib.Core.List.{[]}
+use Prim.Native.Nat.{◌+◌, ◌-◌, ◌≤◌}
+use lib.ListN.{length, set}
+use Rattle.bounds.specs.Bounds.{byte-limit-small}
+use mathlib.Core.Path.{◌≡◌, refl, sym, ap, ◌∙◌}
+use native.Mathlib.Omega.{arith}
+use borrow.Author.Rules.{rules}
+use Rattle.appending.proofs.put_blocks.Given as goal
+
+abbrev pub invariant-loop-k : goal.invariant-loop-k
+invariant-loop-k l = (l.k ≤ l.src) × (length l.n ≡ length l.initial.bytes)
+    × (length l.initial.at ≡ length l.bytes) × (length l.at ≡ length l.initial.starts) × (l.initial.k ≡ end_from (block_bytes (bare [] l.lens l.first l.base)) l.k l.initial.lens)
+    × (l.n ≡ put_data (block_bytes (bare [] l.lens l.first l.base)) l.k l.initial.bytes l.initial.lens) × (l.initial.at ≡ put_starts (block_bytes (bare [] l.lens l.first l.base))
+    l.k l.bytes l.starts l.initial.lens) × (l.at ≡ put_lens (block_bytes (bare [] l.lens l.first l.base)) l.k l.initial.starts l.starts)
+
+abbrev pub decreases-loop-k : goal.decreases-loop-k
+decreases-loop-k l = l.src - l.k

@@ -1,0 +1,19 @@
+use Rattle.views.specs.View.{view_at}
+use Rattle.builder.specs.Others.{renumbered}
+use lib.Seq.{paste}
+use Rattle.appending.specs.ColumnLaws.{from_more}
+use Rattle.appending.specs.Laying.{put_from}
+use mathlib.Core.List.{List}
+use Prim.Native.Nat.{ℕ, ◌+◌, ◌-◌, ◌*◌, ◌≤◌}
+use lib.ListN.{length}
+use mathlib.Core.Path.{◌≡◌, refl, ap, ◌∙◌}
+use native.Mathlib.Omega.{arith}
+use borrow.Author.Rules.{rules}
+use Rattle.appending.proofs.put_rows.Given as goal
+
+abbrev pub invariant-loop-k : goal.invariant-loop-k
+invariant-loop-k l = (l.k ≤ l.from) × (length l.initial.k ≡ length l.initial.views)
+    × (l.initial.k ≡ put_from (λ q. renumbered l.n (view_at l.to (l.src + q))) l.k l.initial.views l.views)
+
+abbrev pub decreases-loop-k : goal.decreases-loop-k
+decreases-loop-k l = l.from - l.k

@@ -1,0 +1,15 @@
+use Rattle.appending.specs.ColumnLaws.{total-more}
+use Rattle.appending.specs.Laying.{lens_total}
+use Prim.Native.Nat.{ℕ, ◌+◌, ◌-◌, ◌*◌, ◌≤◌}
+use lib.ListN.{get_or}
+use Rattle.bounds.specs.Bounds.{byte-limit-is, block-limit-small}
+use mathlib.Core.Path.{◌≡◌, refl, ap, ◌∙◌}
+use native.Mathlib.Omega.{arith}
+use borrow.Author.Rules.{rules}
+use Rattle.appending.proofs.total.Given as goal
+
+abbrev pub invariant-loop-k : goal.invariant-loop-k
+invariant-loop-k l = (l.k ≤ l.n) × (l.initial.k ≡ lens_total l.lens l.k) × (l.initial.k ≤ 16777216 * l.k)
+
+abbrev pub decreases-loop-k : goal.decreases-loop-k
+decreases-loop-k l = l.n - l.k

@@ -1,0 +1,74 @@
+-- `batches::count_less` meets its contract. The invariant: the rows passed are counted, and it is known whether the next one is reachable. Assumes nothing.
+use Rattle.std.proofs.Common.{◌≡◌, ◌-◌, ◌≤◌, sym, ◌∙◌, arith, rules}
+use Rattle.bounds.specs.Bounds.{row-limit-small}
+use Rattle.column.specs.FitLaws.{fits_gives, fits-listed}
+use Rattle.column.specs.Lent.{lent}
+use Rattle.column.specs.SpotLaws.{found-reach}
+use Rattle.column.specs.Truth.{reachable_at}
+use Rattle.batches.specs.Batches.{less_rows}
+use Rattle.batches.proofs.Laws.{less_none, less-more, no_rows}
+use Rattle.batches.proofs.count_less.Goals as goal
+
+pub returns-then-rows-eq0 : goal.returns-then-rows-eq0
+returns-then-rows-eq0 c = no_rows _ _ c.if-rows-eq0.true
+
+pub all_in_data-known-requires : goal.all_in_data-known-requires
+all_in_data-known-requires c = fits-listed _ _ _ _ _ _ c.requires
+
+pub spot_of-requires : goal.spot_of-requires
+spot_of-requires c = (c.requires, omega arith, λ e. sym c.all_in_data-known.ensures ∙ e)
+
+pub loop-k-init : goal.loop-k-init
+loop-k-init c = (
+  omega arith,
+  omega arith,
+  less_none _ _,
+  c.is_reached-good.ensures ∙ found-reach _ _ _ _ _ _ _ c.spot_of.ensures,
+)
+
+pub overflow_sub-rows : goal.overflow_sub-rows
+overflow_sub-rows c = omega arith
+
+pub overflow_add-k : goal.overflow_add-k
+overflow_add-k c = omega arith
+
+pub spot_of-s-requires : goal.spot_of-s-requires
+spot_of-s-requires c = (
+  c.requires,
+  omega arith,
+  λ e. sym c.all_in_data-known.ensures ∙ e,
+)
+
+pub is_below-requires : goal.is_below-requires
+is_below-requires c = (
+  c.requires,
+  omega arith,
+  c.loop-k.invariant.3,
+  c.is_reached-next.ensures ∙ found-reach _ _ _ _ _ _ _ c.spot_of-s.ensures,
+)
+
+pub overflow_add-n : goal.overflow_add-n
+overflow_add-n c =
+    let g = fits_gives _ _ _ _ _ _ c.requires in
+    omega (arith, row-limit-small)
+
+pub overflow_add-k-in-loop-k : goal.overflow_add-k-in-loop-k
+overflow_add-k-in-loop-k c =
+    let g = fits_gives _ _ _ _ _ _ c.requires in
+    omega (arith, row-limit-small)
+
+pub loop-k-smaller : goal.loop-k-smaller
+loop-k-smaller c = omega arith
+
+pub loop-k-preserved : goal.loop-k-preserved
+loop-k-preserved c = (
+  omega arith,
+  omega arith,
+  less-more _ _ _ _ _ _ c.loop-k.invariant.2 c.is_below.ensures c.one_if-n.ensures.0,
+  c.is_reached-next.ensures ∙ found-reach _ _ _ _ _ _ _ c.spot_of-s.ensures,
+)
+
+pub returns : goal.returns
+returns c =
+    let e : c.loop-k.k ≡ c.args.c.rows - 1 = omega arith in
+    rw (← e) c.loop-k.invariant.2

@@ -1,0 +1,17 @@
+-- `batches::count_less` meets its contract. The invariant: the rows passed are counted, and it is known whether the next one is reachable. Assumes nothing.
+use Rattle.std.proofs.Common.{◌≡◌, ◌-◌, ◌≤◌, sym, ◌∙◌, arith, rules}
+use Rattle.bounds.specs.Bounds.{row-limit-small}
+use Rattle.column.specs.FitLaws.{fits_gives, fits-listed}
+use Rattle.column.specs.Lent.{lent}
+use Rattle.column.specs.SpotLaws.{found-reach}
+use Rattle.column.specs.Truth.{reachable_at}
+use Rattle.batches.specs.Batches.{less_rows}
+use Rattle.batches.proofs.Laws.{less_none, less-more, no_rows}
+use Rattle.batches.proofs.count_less.Given as goal
+
+abbrev pub invariant-loop-k : goal.invariant-loop-k
+invariant-loop-k l = (l.k ≤ l.rows - 1) × (l.initial.k ≤ l.k)
+    × (l.initial.k ≡ less_rows (lent l.views l.bytes l.starts l.lens l.nulls) l.c l.k) × (l.n ≡ reachable_at (lent l.views l.bytes l.starts l.lens l.nulls) l.c l.k)
+
+abbrev pub decreases-loop-k : goal.decreases-loop-k
+decreases-loop-k l = l.rows - l.k

@@ -1,0 +1,10 @@
+use Rattle.basis.specs.Pick.{lt_yes, lt_no}
+use mathlib.Core.Path.{refl}
+use borrow.Author.Rules.{rules}
+use Rattle.builder.proofs.at_or.Goals as goal
+
+pub returns-then-k-blocks : goal.returns-then-k-blocks
+returns-then-k-blocks c = lt_yes _ _ _ _ _ c.if-k-blocks.true refl
+
+pub returns : goal.returns
+returns c = lt_no _ _ _ _ _ c.if-k-blocks.false refl

@@ -1,0 +1,6 @@
+use mathlib.Core.Path.{sym}
+use borrow.Author.Rules.{rules}
+use Rattle.builder.proofs.same_merging.Goals as goal
+
+pub returns-in-UpTo : goal.returns-in-UpTo
+returns-in-UpTo c = sym c.m-1.given.1

@@ -1,0 +1,8 @@
+-- `builder_exports::tambuyeel_append_values` meets its contract. Assumes nothing.
+use Rattle.builder_exports.proofs.NumberLaws.{exported}
+use borrow.Author.Rules.{rules}
+use Rattle.builder_exports.proofs.tambuyeel_append_values.Goals as goal
+
+pub returns : goal.returns
+returns c =
+    exported _ _ _ _ _ _ _ _ _ _ _ _ _ _ _ _ _ c.state_of-s.ensures c.append_values-a.ensures _ _ c.tell.ensures.0 c.tell.ensures.1

@@ -1,0 +1,9 @@
+-- `builder_exports::tambuyeel_append_view` meets its contract. Assumes nothing.
+use Rattle.builder_exports.proofs.NumberLaws.{exported}
+use borrow.Author.Rules.{rules}
+use Rattle.builder_exports.proofs.tambuyeel_append_view.Goals as goal
+
+pub returns : goal.returns
+returns c =
+    exported _ _ _ _ _ _ _ _ _ _ _ _ _ _ _ _ _ c.state_of-s.ensures c.append_view-a.ensures _ _
+    c.tell.ensures.0 c.tell.ensures.1

@@ -1,0 +1,15 @@
+-- `codes::groups_follow` meets its contract. Assumes nothing.
+use Rattle.codes.proofs.Laws.{follow-end, follow-none, follow-other, follow-no, follow-on, follow-room}
+use Rattle.codes.specs.Recogniser.{groups_follow, leading}
+use borrow.Author.Tests.{not-true, not-false}
+use lib.ListN.{length, drop}
+use Prim.Native.Nat.{◌≤◌, ◌-◌}
+use mathlib.Core.Path.{◌≡◌, refl, sym, ap, ◌∙◌}
+use native.Mathlib.Omega.{arith}
+use Rattle.codes.proofs.groups_follow.Given as goal
+
+abbrev pub invariant-loop-at : goal.invariant-loop-at
+invariant-loop-at l = (l.at ≤ length l.s) × ((l.initial.at ≤ 2) × (groups_follow l.initial.at (drop l.at l.s) ≡ groups_follow 2 l.s))
+
+abbrev pub decreases-loop-at : goal.decreases-loop-at
+decreases-loop-at l = length l.s - l.at

@@ -1,0 +1,17 @@
+-- `codes::is_parted` meets its contract. Assumes nothing.
+use Rattle.codes.proofs.Laws.{parted-no, parted-on, parted-end}
+use mathlib.Core.Bool.{true}
+use mathlib.Core.Path.{◌≡◌, refl, sym, ◌∙◌}
+use Rattle.codes.specs.Recogniser.{parted}
+use borrow.Author.Tests.{not-true, not-false}
+use lib.ListN.{length, drop}
+use Prim.Native.Nat.{◌≤◌, ◌-◌}
+use native.Mathlib.Omega.{arith}
+use borrow.Author.Rules.{rules}
+use Rattle.codes.proofs.is_parted.Given as goal
+
+abbrev pub invariant-loop-i : goal.invariant-loop-i
+invariant-loop-i l = (l.i ≤ length l.s) × (parted l.initial.i (drop l.i l.s) ≡ parted true l.s)
+
+abbrev pub decreases-loop-i : goal.decreases-loop-i
+decreases-loop-i l = length l.s - l.i

@@ -1,0 +1,18 @@
+-- `column::all_in_data` meets its contract. Assumes nothing.
+use mathlib.Core.Bool.{true}
+use mathlib.Core.List.{[]}
+use mathlib.Core.Path.{◌≡◌, sym, ◌∙◌}
+use Prim.Native.Nat.{◌≤◌, ◌-◌}
+use native.Mathlib.Omega.{arith}
+use borrow.Author.Rules.{rules}
+use borrow.Author.Tests.{not-true, not-false}
+use Rattle.column.specs.FitLaws.{all_none, all_more, all-not}
+use Rattle.column.specs.Lent.{all_in_data}
+use Rattle.column.specs.Room.{bare}
+use Rattle.column.proofs.all_in_data.Given as goal
+
+abbrev pub invariant-loop-k : goal.invariant-loop-k
+invariant-loop-k l = (l.k ≤ l.blocks) × (all_in_data (bare [] l.bytes l.starts l.lens) l.k ≡ true)
+
+abbrev pub decreases-loop-k : goal.decreases-loop-k
+decreases-loop-k l = l.blocks - l.k

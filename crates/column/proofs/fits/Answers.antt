@@ -1,0 +1,8 @@
+-- `column::fits` meets its contract. Assumes nothing.
+use mathlib.Core.Path.{sym, ◌∙◌}
+use borrow.Author.Rules.{rules}
+use Rattle.column.specs.FitLaws.{length-table}
+use Rattle.column.proofs.fits.Goals as goal
+
+pub returns : goal.returns
+returns c = c.fits_with.ensures.1 _ _ (c.least.ensures ∙ sym (length-table _ _))

@@ -1,0 +1,6 @@
+-- `column::of_kind` meets its contract. Assumes nothing.
+use borrow.Author.Rules.{rules}
+use Rattle.column.proofs.of_kind.Goals as goal
+
+pub returns-in-Text : goal.returns-in-Text
+returns-in-Text c = rw c.enum_told-in-Text-1.given.1 c.is_utf8.ensures

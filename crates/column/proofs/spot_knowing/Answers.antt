@@ -1,0 +1,45 @@
+-- `column::spot_knowing` meets its contract. Assumes nothing.
+use mathlib.Core.Path.{sym, ◌∙◌}
+use native.Mathlib.Omega.{arith}
+use borrow.Author.Rules.{rules}
+use borrow.Author.Tests.{not-true, not-false}
+use Rattle.bounds.specs.Bounds.{byte-limit-is}
+use Rattle.column.specs.FitLaws.{all-each, in-data-gives}
+use Rattle.column.specs.SpotLaws.{spot-short, spot-no-block, long-over, long-past, long-data}
+use Rattle.column.proofs.spot_knowing.Goals as goal
+
+pub returns-then-blocks-k : goal.returns-then-blocks-k
+returns-then-blocks-k c = spot-no-block _ _ _ _ _ _ c.view_len-len.ensures.0 c.if-len-gt-SHORT_MOST.true _
+    c.view_block-k.ensures.0 c.if-blocks-k.true
+
+pub returns-then-size-end : goal.returns-then-size-end
+returns-then-size-end c =
+    let p = c.requires.0 in
+    long-over _ _ _ _ _ _ _ c.view_len-len.ensures.0 c.if-len-gt-SHORT_MOST.true _ c.view_block-k.ensures.0
+    c.if-blocks-k.false p.starts p.lens _ c.view_offset-offset.ensures.0 c.if-size-end.true
+
+pub returns-then-not-lies : goal.returns-then-not-lies
+returns-then-not-lies c =
+    let p = c.requires in
+    long-past _ _ _ _ _ _ _ c.view_len-len.ensures.0 c.if-len-gt-SHORT_MOST.true _ c.view_block-k.ensures.0
+    c.if-blocks-k.false p.0.starts p.0.lens _ c.view_offset-offset.ensures.0
+    (sym (c.lies.ensures (λ e. all-each _ _ _ _ _ _ _ p.0.starts p.0.lens (p.1 e) c.if-blocks-k.false)) ∙ not-true _ c.if-not-lies.true)
+
+pub overflow_add-result : goal.overflow_add-result
+overflow_add-result c =
+    let p = c.requires in
+    let g = in-data-gives _ _ _ (sym (c.lies.ensures (λ e. all-each _ _ _ _ _ _ _ p.0.starts p.0.lens (p.1 e) c.if-blocks-k.false))
+    ∙ not-false _ c.if-not-lies.false) in
+    omega (arith, g.0, c.if-size-end.false, byte-limit-is)
+
+pub returns-then-len-gt-SHORT_MOST : goal.returns-then-len-gt-SHORT_MOST
+returns-then-len-gt-SHORT_MOST c =
+    let p = c.requires in
+    let g = in-data-gives _ _ _ (sym (c.lies.ensures (λ e. all-each _ _ _ _ _ _ _ p.0.starts p.0.lens (p.1 e) c.if-blocks-k.false))
+    ∙ not-false _ c.if-not-lies.false) in
+    long-data _ _ _ _ _ _ _ c.view_len-len.ensures.0 c.if-len-gt-SHORT_MOST.true _ c.view_block-k.ensures.0
+    c.if-blocks-k.false p.0.starts p.0.lens _ c.view_offset-offset.ensures.0 g.0 g.1
+    c.if-size-end.false
+
+pub returns : goal.returns
+returns c = spot-short _ _ _ _ _ _ c.view_len-len.ensures.0 c.if-len-gt-SHORT_MOST.false

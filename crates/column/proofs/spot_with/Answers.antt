@@ -1,0 +1,31 @@
+-- `column::spot_with` meets its contract. Assumes nothing.
+use borrow.Author.Rules.{rules}
+use native.Mathlib.Omega.{arith}
+use Rattle.column.specs.SpotLaws.{spot-short, spot-no-block, spot-over, spot_past, spot-data}
+use Rattle.column.proofs.spot_with.Goals as goal
+
+pub returns-then-len-le-SHORT_MOST : goal.returns-then-len-le-SHORT_MOST
+returns-then-len-le-SHORT_MOST c = spot-short _ _ _ _ _ _ c.view_len-len.ensures.0 c.if-len-le-SHORT_MOST.true
+
+pub returns-then-blocks-view_block : goal.returns-then-blocks-view_block
+returns-then-blocks-view_block c = spot-no-block _ _ _ _ _ _ c.view_len-len.ensures.0 c.if-len-le-SHORT_MOST.false _
+    c.view_block.ensures.0 c.if-blocks-view_block.true
+
+pub returns-then-size-offset : goal.returns-then-size-offset
+returns-then-size-offset c = spot-over _ _ _ _ _ _ c.view_len-len.ensures.0 c.if-len-le-SHORT_MOST.false _
+    c.view_block.ensures.0 c.if-blocks-view_block.false _ c.view_offset-offset.ensures.0 c.if-size-offset.true
+
+pub returns-then-room-size : goal.returns-then-room-size
+returns-then-room-size c = spot_past _ _ _ _ _ _ c.view_len-len.ensures.0
+    c.if-len-le-SHORT_MOST.false _ c.view_block.ensures.0
+    c.if-blocks-view_block.false _ c.view_offset-offset.ensures.0 (omega arith)
+
+pub returns-then-room-size-2 : goal.returns-then-room-size-2
+returns-then-room-size-2 c = spot_past _ _ _ _ _ _ c.view_len-len.ensures.0
+    c.if-len-le-SHORT_MOST.false _ c.view_block.ensures.0
+    c.if-blocks-view_block.false _ c.view_offset-offset.ensures.0 (omega arith)
+
+pub returns : goal.returns
+returns c = spot-data _ _ _ _ _ _ c.view_len-len.ensures.0
+    c.if-len-le-SHORT_MOST.false _ c.view_block.ensures.0
+    c.if-blocks-view_block.false _ c.view_offset-offset.ensures.0 (omega arith) (omega arith)

@@ -1,0 +1,25 @@
+use Rattle.compaction.specs.CutLaws.{stand-next, next_grows}
+use Rattle.compaction.specs.Steps.{stand_of}
+use Rattle.compaction.specs.Compact.{long_of}
+use Rattle.compaction.specs.Cut.{cut_all}
+use Rattle.views.specs.View.{view_at, length_of}
+use Rattle.column.specs.Truth.{is_true, true_at}
+use Rattle.column.specs.Room.{bare}
+use Rattle.bounds.specs.Bounds.{row-limit-small}
+use borrow.Author.Tests.{not-true, not-false}
+use borrow.Author.Count.{below_more}
+use mathlib.Core.Bool.{true}
+use mathlib.Core.Path.{◌≡◌, sym, ◌∙◌}
+use Prim.Native.Nat.{ℕ, ◌+◌, ◌-◌, ◌*◌, ◌≤◌, ◌<◌}
+use Rattle.compaction.specs.CutLaws.{stand-none}
+use native.Mathlib.Omega.{arith}
+use Rattle.compaction.proofs.measure.Given as goal
+
+abbrev pub invariant-loop-k : goal.invariant-loop-k
+invariant-loop-k l = (l.k ≤ l.rows) × ((r : ℕ) → r < l.k → is_true (bare l.views l.bytes l.starts l.lens) l.kind
+    l.blocks (view_at l.views (l.first + r)) ≡ true)
+    × (l.initial.k ≡ stand_of (cut_all l.most (long_of (λ r. length_of (view_at l.views (l.first + r))) (λ r. length_of (view_at l.views (l.first + r))) l.k)))
+    × (l.initial.k.base + l.initial.k.fill ≤ 4294967296 * l.k) × (l.initial.k.closed ≤ l.k)
+
+abbrev pub decreases-loop-k : goal.decreases-loop-k
+decreases-loop-k l = l.rows - l.k

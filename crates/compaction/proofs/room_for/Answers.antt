@@ -1,0 +1,10 @@
+use Rattle.compaction.specs.CutLaws.{room_in_lem, room-over}
+use native.Mathlib.Omega.{arith}
+use borrow.Author.Rules.{rules}
+use Rattle.compaction.proofs.room_for.Goals as goal
+
+pub returns-then-fill-n : goal.returns-then-fill-n
+returns-then-fill-n c = room_in_lem _ _ _ (omega arith)
+
+pub returns : goal.returns
+returns c = room-over _ _ _ (omega arith)

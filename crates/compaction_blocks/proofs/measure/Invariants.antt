@@ -1,0 +1,16 @@
+-- `compaction_blocks::measure` meets its contract. Assumes nothing.
+use Prim.Native.Nat.{◌+◌, ◌-◌, ◌*◌, ◌≤◌}
+use mathlib.Core.Path.{◌≡◌}
+use native.Mathlib.Omega.{arith}
+use Rattle.bounds.specs.Bounds.{row-limit-small}
+use Rattle.views.specs.View.{view_at}
+use Rattle.compaction.specs.CutLaws.{stand-none, stand-next, next_grows}
+use Rattle.compaction.specs.Steps.{stand_at}
+use Rattle.compaction_blocks.proofs.measure.Given as goal
+
+abbrev pub invariant-loop-k : goal.invariant-loop-k
+invariant-loop-k l = (l.k ≤ l.rows) × (l.initial.k ≡ stand_at l.most (λ r. view_at l.views (l.first + r)) l.k) × (l.initial.k.base + l.initial.k.fill ≤ 4294967296 * l.k)
+    × (l.initial.k.closed ≤ l.k)
+
+abbrev pub decreases-loop-k : goal.decreases-loop-k
+decreases-loop-k l = l.rows - l.k

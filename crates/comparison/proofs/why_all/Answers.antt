@@ -1,0 +1,16 @@
+-- `comparison::why_all` meets its contract. Assumes nothing.
+use mathlib.Core.Path.{sym, ◌∙◌}
+use borrow.Author.Rules.{rules}
+use borrow.Author.Tests.{not-false}
+use Rattle.comparison.proofs.SameLaws.{all-unfit, all-judged, judged-bare, rows-in-room}
+use Rattle.comparison.proofs.why_all.Goals as goal
+
+pub returns-then-not-fits : goal.returns-then-not-fits
+returns-then-not-fits c = all-unfit _ _ (rw c.fits2.ensures at c.if-not-fits.true)
+
+pub judge_rows-requires : goal.judge_rows-requires
+judge_rows-requires c = rows-in-room _ _ _ _ _ _ (sym c.fits2.ensures ∙ not-false _ c.if-not-fits.false)
+
+pub returns : goal.returns
+returns c = all-judged _ _ _ (rw c.fits2.ensures at c.if-not-fits.false) (c.judge_rows.ensures
+    ∙ judged-bare _ _ _ _ _ c.args.c _ _)

@@ -1,0 +1,14 @@
+use Rattle.copy.specs.Over.{copied_up_to}
+use Rattle.copy.specs.OverLaws.{copied_none, copied_all, copied_more, copied-length}
+use Prim.Native.Nat.{◌+◌, ◌-◌, ◌≤◌}
+use lib.ListN.{length}
+use mathlib.Core.Path.{◌≡◌, ◌∙◌, ap}
+use native.Mathlib.Omega.{arith}
+use borrow.Author.Rules.{rules}
+use Rattle.copy.proofs.chunks.Given as goal
+
+abbrev pub invariant-loop-o : goal.invariant-loop-o
+invariant-loop-o l = (l.dst ≡ length l.src) × (l.o ≤ l.dst) × (length l.initial.o ≡ length l.initial.dst) × (l.initial.o ≡ copied_up_to l.initial.dst l.src l.o)
+
+abbrev pub decreases-loop-o : goal.decreases-loop-o
+decreases-loop-o l = l.dst - l.o

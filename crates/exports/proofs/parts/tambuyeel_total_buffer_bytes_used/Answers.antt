@@ -1,0 +1,8 @@
+-- `exports::parts::tambuyeel_total_buffer_bytes_used` meets its contract. Assumes nothing.
+use mathlib.Core.Path.{ap, ◌∙◌}
+use Rattle.exports.specs.Parts.{number_told}
+use borrow.Author.Rules.{rules}
+use Rattle.exports.proofs.parts.tambuyeel_total_buffer_bytes_used.Goals as goal
+
+pub returns : goal.returns
+returns c = c.told_number.ensures ∙ ap number_told (rw c.column_of.ensures at c.total_buffer_bytes_used.ensures)

@@ -1,0 +1,12 @@
+-- `exports::parts::told_number` meets its contract. Assumes nothing.
+use mathlib.Core.Path.{sym, ap, ◌∙◌}
+use Prim.Native.Nat.{ℕ}
+use Rattle.exports.specs.Parts.{counted, number_told}
+use borrow.Author.Rules.{rules}
+use Rattle.exports.proofs.parts.told_number.Goals as goal
+
+pub returns-in-Is : goal.returns-in-Is
+returns-in-Is c = sym (ap number_told c.n-1.given.1)
+
+pub returns-in-Refused : goal.returns-in-Refused
+returns-in-Refused c = ap (λ (n : ℕ). counted n 0) c.number.ensures ∙ sym (ap number_told c.n-in-Refused-1.given.1)

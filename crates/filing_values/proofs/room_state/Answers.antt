@@ -1,0 +1,13 @@
+use Rattle.builder.specs.StepLaws.{pick_yes, pick_no}
+use Rattle.builder.specs.State.{roomed}
+use mathlib.Core.Path.{refl}
+use borrow.Author.Rules.{rules}
+use Rattle.filing_values.proofs.room_state.Goals as goal
+
+pub returns-then-fits_open : goal.returns-then-fits_open
+unfolding roomed
+returns-then-fits_open c = pick_yes _ _ _ _ _ c.fits_open.ensures c.if-fits_open.true refl
+
+pub returns : goal.returns
+unfolding roomed
+returns c = pick_no _ _ _ _ _ c.fits_open.ensures c.if-fits_open.false c.fresh.ensures

@@ -1,0 +1,5 @@
+use borrow.Author.Rules.{rules}
+use Rattle.finishing.proofs.column_of.Goals as goal
+
+pub returns : goal.returns
+returns c = rw c.all_blocks.ensures

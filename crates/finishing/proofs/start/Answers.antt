@@ -1,0 +1,29 @@
+use Rattle.builder.specs.Start.{empty_state}
+use Rattle.growth.specs.declared.Growth.{Growth}
+use Rattle.finishing.specs.EndLaws.{start-no, start-yes}
+use borrow.Author.Tests.{not-true, not-false}
+use mathlib.Core.Path.{sym, ap, ◌∙◌}
+use borrow.Author.Rules.{rules}
+use Rattle.finishing.proofs.start.Goals as goal
+
+pub returns-then-not-lawful_sizes : goal.returns-then-not-lawful_sizes
+returns-then-not-lawful_sizes c = start-no _ _ _ (rw (sym c.lawful_sizes.ensures ∙ not-true _ c.if-not-lawful_sizes.true)) c.empty_state.ensures
+
+pub returns-then-not-lawful_merging : goal.returns-then-not-lawful_merging
+returns-then-not-lawful_merging c = start-no _ _ _ (rw (
+  (sym c.lawful_sizes.ensures
+      ∙ not-false _ c.if-not-lawful_sizes.false),
+  sym c.lawful_merging.ensures ∙ not-true _ c.if-not-lawful_merging.true,
+))
+    c.empty_state-then-not-lawful_merging.ensures
+
+pub returns : goal.returns
+returns c =
+    let a = c.args in
+    start-yes _ _ _ _ (rw (
+      (sym c.lawful_sizes.ensures ∙ not-false _ c.if-not-lawful_sizes.false),
+      sym
+          c.lawful_merging.ensures
+          ∙ not-false _ c.if-not-lawful_merging.false,
+    )) (c.empty_state-2.ensures
+    ∙ ap (λ (g : Growth). empty_state a.t.kind g a.t.merging) c.growth_of.ensures) c.clear.ensures

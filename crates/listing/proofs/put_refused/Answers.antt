@@ -1,0 +1,14 @@
+use Rattle.listing.specs.Text.{refused_line}
+use Rattle.listing.specs.Laws.{put_holds}
+use native.Mathlib.Omega.{arith}
+use borrow.Author.Rules.{rules}
+use Rattle.listing.proofs.put_refused.Goals as goal
+
+pub returns : goal.returns
+unfolding refused_line
+returns c = put_holds c.put_line.ensures.0 (omega (
+  arith,
+  c.requires,
+  c.put_line.ensures.0.ends,
+  c.put_line.ensures.1,
+))

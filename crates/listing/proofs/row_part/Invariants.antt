@@ -1,0 +1,15 @@
+use mathlib.Core.Path.{◌≡◌, refl, ◌∙◌}
+use lib.ListN.{length, take, get_or, length-take}
+use mathlib.Core.List.{◌++◌}
+use Prim.Native.Nat.{◌*◌, ◌-◌, ◌≤◌}
+use Rattle.listing.specs.Text.{text_from}
+use Rattle.listing.specs.Laws.{rest_more, item-length}
+use native.Mathlib.Omega.{arith}
+use Rattle.listing.proofs.row_part.Given as goal
+
+abbrev pub invariant-loop-k : goal.invariant-loop-k
+invariant-loop-k l = (l.x ≤ l.k) × (l.k ≤ l.from) × (l.initial.k ≤ 5 * (l.k - l.x)) × (length l.w ≡ length l.initial.out)
+    × (take l.initial.k l.w ++ text_from l.out l.k ≡ text_from l.out l.x)
+
+abbrev pub decreases-loop-k : goal.decreases-loop-k
+decreases-loop-k l = l.from - l.k

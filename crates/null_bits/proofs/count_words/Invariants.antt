@@ -1,0 +1,14 @@
+use lib.Count.{ones-le}
+use mathlib.Core.Path.{◌≡◌, refl}
+use Prim.Native.Nat.{◌-◌, ◌*◌, ◌≤◌}
+use native.Mathlib.Omega.{arith}
+use Rattle.null_bits.specs.Bits.{count_valid}
+use Rattle.null_bits.specs.CountLaws.{count-le, count-is}
+use Rattle.null_bits.proofs.Laws.{count-more-word}
+use Rattle.null_bits.proofs.count_words.Given as goal
+
+abbrev pub invariant-loop-k : goal.invariant-loop-k
+invariant-loop-k l = (l.k ≤ l.words) × (l.initial.k ≡ count_valid l.map (8 * l.i) (64 * l.k))
+
+abbrev pub decreases-loop-k : goal.decreases-loop-k
+decreases-loop-k l = l.words - l.k

@@ -1,0 +1,16 @@
+use mathlib.Core.Path.{ap}
+use Rattle.null_bits.proofs.ByteLaws.{next-byte, run-rest}
+use Rattle.null_bits.specs.Runs.{put_bits}
+use Rattle.null_bits.specs.Bits.{is_valid}
+use lib.ListN.{length}
+use native.Mathlib.Nat.{add_assoc}
+use Prim.Native.Nat.{◌≤◌, ◌-◌, ◌+◌}
+use mathlib.Core.Path.{◌≡◌, refl, ◌∙◌}
+use borrow.Author.Rules.{rules}
+use Rattle.null_bits.proofs.runs.copy_bits.Given as goal
+
+abbrev pub invariant-loop-k : goal.invariant-loop-k
+invariant-loop-k l = (l.k ≤ l.from) × (length l.initial.k ≡ length l.initial.map) × (l.initial.k ≡ put_bits l.initial.map l.map (λ j. is_valid l.first (l.src + j)) l.k)
+
+abbrev pub decreases-loop-k : goal.decreases-loop-k
+decreases-loop-k l = l.from - l.k

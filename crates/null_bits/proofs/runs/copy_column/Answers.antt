@@ -1,0 +1,15 @@
+use mathlib.Core.Path.{◌∙◌}
+use Rattle.null_bits.specs.RunLaws.{column-map, column-none}
+use borrow.Author.Rules.{rules}
+use Rattle.null_bits.proofs.runs.copy_column.Goals as goal
+
+pub copy_bits-requires : goal.copy_bits-requires
+copy_bits-requires c =
+    let pre = c.requires in
+    (pre.0, pre.1, pre.2 c.if-mapped.true, pre.3)
+
+pub returns-then-mapped : goal.returns-then-mapped
+returns-then-mapped c = c.copy_bits.ensures ∙ column-map _ _ _ _ _ _ c.if-mapped.true
+
+pub returns-else-mapped : goal.returns-else-mapped
+returns-else-mapped c = c.put_run.ensures ∙ column-none _ _ _ _ _ _ c.if-mapped.false

@@ -1,0 +1,14 @@
+use Rattle.null_bits.specs.Runs.{put_bits, copy_bits}
+use lib.ListN.{length}
+use native.Mathlib.Numerals.{add-one}
+use Prim.Native.Nat.{◌≤◌, ◌-◌}
+use mathlib.Core.Path.{◌≡◌, refl, ◌∙◌}
+use native.Mathlib.Omega.{arith}
+use borrow.Author.Rules.{rules}
+use Rattle.null_bits.proofs.runs.copy_few.Given as goal
+
+abbrev pub invariant-loop-k : goal.invariant-loop-k
+invariant-loop-k l = (l.k ≤ l.from) × (length l.initial.k ≡ length l.initial.map) × (l.initial.k ≡ copy_bits l.initial.map l.map l.first l.src l.k)
+
+abbrev pub decreases-loop-k : goal.decreases-loop-k
+decreases-loop-k l = l.from - l.k

@@ -1,0 +1,14 @@
+use Rattle.null_bits.proofs.ByteLaws.{length-bytes, bytes-none, bytes-more}
+use Rattle.null_bits.specs.Runs.{put_bytes}
+use lib.ListN.{length}
+use Prim.Native.Nat.{◌+◌, ◌≤◌, ◌-◌}
+use mathlib.Core.Path.{◌≡◌, refl, ap, ◌∙◌}
+use native.Mathlib.Omega.{arith}
+use borrow.Author.Rules.{rules}
+use Rattle.null_bits.proofs.runs.put_bytes.Given as goal
+
+abbrev pub invariant-loop-k : goal.invariant-loop-k
+invariant-loop-k l = (l.k ≤ l.i) × (length l.initial.k ≡ length l.initial.map) × (l.initial.k ≡ put_bytes l.initial.map l.map l.bytes l.k)
+
+abbrev pub decreases-loop-k : goal.decreases-loop-k
+decreases-loop-k l = l.i - l.k

@@ -1,0 +1,12 @@
+use Rattle.offsets.proofs.RowLaws.{kind-null, kind-valid}
+use borrow.Author.Tests.{not-true, not-false}
+use mathlib.Core.Path.{sym, ◌∙◌}
+use borrow.Author.Rules.{rules}
+use Rattle.offsets.proofs.row_of_kind.Goals as goal
+
+pub returns-then-not-valid_at : goal.returns-then-not-valid_at
+returns-then-not-valid_at c = let a = c.args in kind-null _ _ _ _ _ _ _ (sym c.valid_at.ensures ∙ not-true _ c.if-not-valid_at.true)
+
+pub returns : goal.returns
+returns c = kind-valid _ _ _ _ _ _ _ _ _ (sym c.valid_at.ensures ∙ not-false _ c.if-not-valid_at.false)
+    c.value_part.ensures c.of_kind.ensures

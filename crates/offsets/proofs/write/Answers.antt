@@ -1,0 +1,28 @@
+use Rattle.laying.specs.Written.{put_rows}
+use Rattle.offsets.specs.Offsets.{source, width_of, row_view_of}
+use Prim.Native.Nat.{◌-◌, ◌≤◌}
+use lib.ListN.{length}
+use Rattle.offsets.proofs.RowLaws.{rows_none, rows_more}
+use mathlib.Core.Path.{◌≡◌, refl}
+use native.Mathlib.Omega.{arith}
+use borrow.Author.Rules.{rules}
+use Rattle.offsets.proofs.write.Goals as goal
+
+pub loop-j-init : goal.loop-j-init
+loop-j-init c = (omega arith, refl, rows_none _ _)
+
+pub put_row-requires : goal.put_row-requires
+put_row-requires c = let p = c.requires in
+    (p.0.cut c.loop-j.j (omega arith), (λ e. omega (arith, p.0.map e)), omega arith, omega arith, omega arith)
+
+pub overflow_add-j : goal.overflow_add-j
+overflow_add-j c = omega arith
+
+pub loop-j-smaller : goal.loop-j-smaller
+loop-j-smaller c = omega arith
+
+pub loop-j-preserved : goal.loop-j-preserved
+loop-j-preserved c = (omega arith, omega arith, rows_more _ _ _ _ _ c.loop-j.invariant.2 c.put_row.ensures)
+
+pub returns : goal.returns
+returns c = let e : c.loop-j.j ≡ c.args.rows = omega arith in rw (← e) c.loop-j.invariant.2

@@ -1,0 +1,16 @@
+use Rattle.laying.specs.Written.{put_rows}
+use Rattle.offsets.specs.Offsets.{source, width_of, row_view_of}
+use Prim.Native.Nat.{◌-◌, ◌≤◌}
+use lib.ListN.{length}
+use Rattle.offsets.proofs.RowLaws.{rows_none, rows_more}
+use mathlib.Core.Path.{◌≡◌, refl}
+use native.Mathlib.Omega.{arith}
+use borrow.Author.Rules.{rules}
+use Rattle.offsets.proofs.write.Given as goal
+
+abbrev pub invariant-loop-j : goal.invariant-loop-j
+invariant-loop-j l = (l.j ≤ l.mapped) × (length l.initial.j ≡ length l.initial.newviews)
+    × (l.initial.j ≡ put_rows l.initial.newviews (row_view_of (width_of l.offsets) (source l.newviews l.large l.bytes l.nulls)) l.j)
+
+abbrev pub decreases-loop-j : goal.decreases-loop-j
+decreases-loop-j l = l.mapped - l.j

@@ -1,0 +1,14 @@
+use mathlib.Core.Path.{◌≡◌, ◌∙◌}
+use lib.ListN.{length}
+use Prim.Native.Nat.{◌-◌, ◌≤◌, min}
+use Rattle.order.specs.Order.{Agree}
+use Rattle.order.proofs.Laws.{byte-same, byte-decides, lengths-decide}
+use native.Mathlib.Omega.{arith}
+use borrow.Author.Rules.{rules}
+use Rattle.order.proofs.by_bytes.Given as goal
+
+abbrev pub invariant-loop-i : goal.invariant-loop-i
+invariant-loop-i l = (l.n ≡ min (length l.a) (length l.b)) × (l.i ≤ l.n) × Agree l.a l.b 0 l.i
+
+abbrev pub decreases-loop-i : goal.decreases-loop-i
+decreases-loop-i l = l.n - l.i

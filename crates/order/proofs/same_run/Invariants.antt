@@ -1,0 +1,14 @@
+use Rattle.order.proofs.Laws.{block_more_lem, block_same}
+use Rattle.order.specs.Order.{Agree}
+use borrow.Author.Tests.{eq-eqb, eqb-true}
+use Prim.Native.Nat.{◌-◌, ◌≤◌}
+use mathlib.Core.Path.{◌≡◌, refl}
+use native.Mathlib.Omega.{arith}
+use borrow.Author.Rules.{rules}
+use Rattle.order.proofs.same_run.Given as goal
+
+abbrev pub invariant-loop-k : goal.invariant-loop-k
+invariant-loop-k l = (l.k ≤ l.m) × (l.initial.k ≡ 0 → Agree l.a l.b l.i l.k) × (Agree l.a l.b l.i l.k → l.initial.k ≡ 0)
+
+abbrev pub decreases-loop-k : goal.decreases-loop-k
+decreases-loop-k l = l.m - l.k

@@ -1,0 +1,11 @@
+-- `reading::judged` meets its contract. Assumes nothing.
+use mathlib.Core.Path.{sym, ◌∙◌}
+use borrow.Author.Rules.{rules}
+use Rattle.reading.specs.LocatedLaws.{judged-yes, judged-no}
+use Rattle.reading.proofs.judged.Goals as goal
+
+pub returns-then-is_reached : goal.returns-then-is_reached
+returns-then-is_reached c = judged-yes _ _ (sym c.is_reached.ensures ∙ c.if-is_reached.true)
+
+pub returns : goal.returns
+returns c = judged-no _ _ (sym c.is_reached.ensures ∙ c.if-is_reached.false)

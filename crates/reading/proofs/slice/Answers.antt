@@ -1,0 +1,24 @@
+-- `reading::slice` meets its contract. Assumes nothing.
+use mathlib.Core.Path.{sym, ap, ◌∙◌}
+use native.Mathlib.Omega.{arith}
+use borrow.Author.Rules.{rules}
+use Rattle.bounds.specs.Bounds.{row-limit-small}
+use Rattle.bounds.specs.Refusals.{is_accepted}
+use Rattle.column.specs.FitLaws.{fits_gives}
+use Rattle.reading.specs.Reading.{slice}
+use Rattle.reading.specs.ReadingLaws.{run-known, sliced-is, sliced-no}
+use Rattle.reading.proofs.slice.Goals as goal
+
+pub overflow_add-result : goal.overflow_add-result
+overflow_add-result c =
+    let g = run-known _ _ _ _ (ap is_accepted (sym c.why_run-why.ensures ∙ c.enum_told-1.given.1)) in
+    let f = fits_gives _ _ _ _ _ _ g.fit in
+    omega (arith, row-limit-small)
+
+pub returns-in-Accepted : goal.returns-in-Accepted
+unfolding slice
+returns-in-Accepted c = sliced-is _ _ (sym c.why_run-why.ensures ∙ c.enum_told-1.given.1)
+
+pub returns-in-Refused : goal.returns-in-Refused
+unfolding slice
+returns-in-Refused c = sliced-no _ _ _ (sym c.why_run-why.ensures ∙ c.why-1.given.1)

@@ -1,0 +1,18 @@
+-- `reading::sum_long` meets its contract. Assumes nothing.
+use mathlib.Core.Bool.{false}
+use mathlib.Core.List.{[]}
+use mathlib.Core.Path.{◌≡◌}
+use Prim.Native.Nat.{◌≤◌, ◌-◌, ◌*◌}
+use native.Mathlib.Omega.{arith}
+use borrow.Author.Rules.{rules}
+use Rattle.bounds.specs.Bounds.{row-limit-small}
+use Rattle.column.specs.Lent.{buffers}
+use Rattle.reading.specs.Reading.{buffer_bytes}
+use Rattle.reading.specs.TotalLaws.{rows_only, buffer-none, buffer-more}
+use Rattle.reading.proofs.sum_long.Given as goal
+
+abbrev pub invariant-loop-k : goal.invariant-loop-k
+invariant-loop-k l = (l.k ≤ l.rows) × ((l.initial.k ≡ buffer_bytes (buffers l.views [] [] []) (rows_only false l.first) l.k) × (l.initial.k ≤ 4294967296 * l.k))
+
+abbrev pub decreases-loop-k : goal.decreases-loop-k
+decreases-loop-k l = l.rows - l.k

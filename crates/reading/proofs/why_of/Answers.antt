@@ -1,0 +1,9 @@
+-- `reading::why_of` meets its contract. Assumes nothing.
+use borrow.Author.Rules.{rules}
+use Rattle.reading.proofs.why_of.Goals as goal
+
+pub returns-in-At : goal.returns-in-At
+returns-in-At c = rw c.enum_told-1.given.1
+
+pub returns-in-Refused : goal.returns-in-Refused
+returns-in-Refused c = rw c.l-1.given.1

@@ -1,0 +1,7 @@
+-- `utf8::is_utf8` meets its contract. Assumes nothing.
+use borrow.Author.Rules.{rules}
+use Rattle.utf8.specs.First.{formed-end}
+use Rattle.utf8.proofs.is_utf8.Goals as goal
+
+pub returns : goal.returns
+returns c = rw (c.first_bad.ensures, formed-end c.args.s.now)

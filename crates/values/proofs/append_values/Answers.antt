@@ -1,0 +1,7 @@
+use Rattle.builder.specs.DoesLaws.{does-same}
+use borrow.Author.Rules.{rules}
+use Rattle.values.proofs.append_values.Goals as goal
+
+pub returns : goal.returns
+returns c =
+    does-same _ _ _ _ _ _ _ _ _ _ c.anew.ensures c.value_call.ensures

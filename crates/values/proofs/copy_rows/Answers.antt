@@ -1,0 +1,58 @@
+use Rattle.words.specs.ListLaws.{put_two}
+use Rattle.builder.specs.TimesLaws.{put_copies, copies-none, copies_length, copies-next}
+use Rattle.views.specs.View.{view_at}
+use lib.ListN.{length}
+use Prim.Native.Nat.{◌+◌, ◌-◌, ◌*◌, ◌≤◌}
+use Rattle.words.specs.Words.{word_at}
+use Rattle.views.specs.ViewLaws.{length-view}
+use mathlib.Core.Path.{◌≡◌, refl, ap, ◌∙◌}
+use native.Mathlib.Omega.{arith}
+use borrow.Author.Rules.{rules}
+use Rattle.values.proofs.copy_rows.Goals as goal
+
+pub overflow_mul-p : goal.overflow_mul-p
+overflow_mul-p c = omega (arith, c.requires)
+
+pub le64-lo-requires : goal.le64-lo-requires
+le64-lo-requires c = omega (arith, c.requires)
+
+pub overflow_add-p : goal.overflow_add-p
+overflow_add-p c = omega (arith, c.requires)
+
+pub le64-hi-requires : goal.le64-hi-requires
+le64-hi-requires c = omega (arith, c.requires)
+
+pub loop-k-init : goal.loop-k-init
+loop-k-init c = (omega arith, refl, c.le64-lo.ensures, c.le64-hi.ensures, copies-none _ _ _)
+
+pub overflow_add-to : goal.overflow_add-to
+overflow_add-to c = omega (arith, c.requires)
+
+pub put_words-requires : goal.put_words-requires
+put_words-requires c = omega (arith, c.requires, c.loop-k.invariant.1)
+
+pub loop-k-preserved : goal.loop-k-preserved
+loop-k-preserved c =
+    let a = c.args in
+    let p = c.requires in
+    let l = c.loop-k in
+    let v = view_at a.views.now a.from in
+    let two = put_two l.views a.views.now (16 * (a.to + l.k)) (16 * a.from) _ _ (λ j. (c.slice_known-1.given j).fits)
+    (omega (arith, p)) (omega (arith, p)) l.invariant.2 l.invariant.3 in
+    let step : c.put_words.new.0 ≡ put_copies a.views.now a.to v (l.k + 1) =
+    (c.put_words.ensures ∙ two) ∙ copies-next a.views.now l.views a.from a.to l.k (omega (arith, p)) l.invariant.4 in (
+      omega arith,
+      ap length step ∙ copies_length a.views.now v a.to (length-view a.views.now a.from (omega (arith, p))) (l.k + 1) (omega
+          (arith, p)),
+      l.invariant.2,
+      l.invariant.3,
+      step,
+    )
+
+pub shape_of-views : goal.shape_of-views
+shape_of-views c = c.loop-k.invariant.1
+
+pub returns : goal.returns
+returns c =
+    let e : c.loop-k.k ≡ c.args.n = omega arith in
+    rw (← e) c.loop-k.invariant.4

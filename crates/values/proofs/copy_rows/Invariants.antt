@@ -1,0 +1,18 @@
+use Rattle.words.specs.ListLaws.{put_two}
+use Rattle.builder.specs.TimesLaws.{put_copies, copies-none, copies_length, copies-next}
+use Rattle.views.specs.View.{view_at}
+use lib.ListN.{length}
+use Prim.Native.Nat.{◌+◌, ◌-◌, ◌*◌, ◌≤◌}
+use Rattle.words.specs.Words.{word_at}
+use Rattle.views.specs.ViewLaws.{length-view}
+use mathlib.Core.Path.{◌≡◌, refl, ap, ◌∙◌}
+use native.Mathlib.Omega.{arith}
+use borrow.Author.Rules.{rules}
+use Rattle.values.proofs.copy_rows.Given as goal
+
+abbrev pub invariant-loop-k : goal.invariant-loop-k
+invariant-loop-k l = (l.k ≤ l.to) × (length l.initial.k ≡ length l.initial.views) × (l.p ≡ word_at l.initial.views (16 * l.views) 8)
+    × (l.lo ≡ word_at l.initial.views (16 * l.views + 8) 8) × (l.initial.k ≡ put_copies l.initial.views l.from (view_at l.initial.views l.views) l.k)
+
+abbrev pub decreases-loop-k : goal.decreases-loop-k
+decreases-loop-k l = l.to - l.k

@@ -1,0 +1,5 @@
+use borrow.Author.Rules.{rules}
+use Rattle.values.proofs.does_merge.Goals as goal
+
+pub returns-in-UpTo : goal.returns-in-UpTo
+returns-in-UpTo c = rw c.m-1.given.1

@@ -1,0 +1,50 @@
+use Rattle.builder.specs.SearchLaws.{found-off, found-on, seek-end, seek-empty, seek_found, seek-on}
+use Rattle.builder.specs.Rooms.{shows_row}
+use Rattle.column.specs.Room.{bare}
+use Rattle.merging.specs.Table.{seek, search_from}
+use Rattle.hash.specs.Hash.{hash_of}
+use lib.ListN.{length}
+use native.Mathlib.Nat.{mod-lt}
+use Prim.Native.Nat.{◌<◌}
+use borrow.Author.Tests.{not-true, not-false}
+use mathlib.Core.Path.{◌≡◌, sym, ◌∙◌}
+use native.Mathlib.Omega.{arith}
+use borrow.Author.Rules.{rules}
+use Rattle.values.proofs.find.Goals as goal
+
+pub returns-then-not-does_merge : goal.returns-then-not-does_merge
+returns-then-not-does_merge c = found-off _ _ _ _ _ c.does_merge.ensures (not-true _ c.if-not-does_merge.true)
+
+pub returns-then-n-eq0 : goal.returns-then-n-eq0
+unfolding search_from
+returns-then-n-eq0 c = found-on _ _ _ _ _ _ c.does_merge.ensures (not-false _ c.if-not-does_merge.false) (seek-end _ _ _ _ c.if-n-eq0.true)
+
+pub loop-left-init : goal.loop-left-init
+unfolding search_from
+loop-left-init c = (mod-lt _ (omega (arith, c.if-n-eq0.false)), rw (← c.hash.ensures))
+
+pub overflow_cast-e : goal.overflow_cast-e
+overflow_cast-e c = omega (arith, c.type_inv.places c.loop-left.p)
+
+pub returns-then-e-eq0 : goal.returns-then-e-eq0
+returns-then-e-eq0 c = found-on _ _ _ _ _ _ c.does_merge.ensures
+    (not-false _ c.if-not-does_merge.false) (seek-empty _ _ _ _ c.loop-left-test.true
+    c.if-e-eq0.true ∙ sym c.loop-left.invariant.1)
+
+pub returns-then-shows_row : goal.returns-then-shows_row
+returns-then-shows_row c =
+    found-on _ _ _ _ _ _ c.does_merge.ensures (not-false _ c.if-not-does_merge.false)
+    (seek_found _ _ _ _ c.loop-left-test.true c.if-e-eq0.false (sym c.shows_row.ensures
+    ∙ c.if-shows_row.true) ∙ sym c.loop-left.invariant.1)
+
+pub loop-left-preserved : goal.loop-left-preserved
+loop-left-preserved c = (
+  c.next_place-p.ensures.1,
+  c.loop-left.invariant.1
+      ∙ seek-on _ _ _ _ _ c.next_place-p.ensures.0 c.loop-left-test.true
+      c.if-e-eq0.false (sym c.shows_row.ensures ∙ c.if-shows_row.false),
+)
+
+pub returns : goal.returns
+returns c = found-on _ _ _ _ _ _ c.does_merge.ensures
+    (not-false _ c.if-not-does_merge.false) (seek-end _ _ _ _ (omega arith) ∙ sym c.loop-left.invariant.1)

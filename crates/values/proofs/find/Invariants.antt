@@ -1,0 +1,20 @@
+use Rattle.builder.specs.SearchLaws.{found-off, found-on, seek-end, seek-empty, seek_found, seek-on}
+use Rattle.builder.specs.Rooms.{shows_row}
+use Rattle.column.specs.Room.{bare}
+use Rattle.merging.specs.Table.{seek, search_from}
+use Rattle.hash.specs.Hash.{hash_of}
+use lib.ListN.{length}
+use native.Mathlib.Nat.{mod-lt}
+use Prim.Native.Nat.{◌<◌}
+use borrow.Author.Tests.{not-true, not-false}
+use mathlib.Core.Path.{◌≡◌, sym, ◌∙◌}
+use native.Mathlib.Omega.{arith}
+use borrow.Author.Rules.{rules}
+use Rattle.values.proofs.find.Given as goal
+
+abbrev pub invariant-loop-left : goal.invariant-loop-left
+invariant-loop-left l = (l.initial.left < length l.places)
+    × (search_from l.places (shows_row l.s (bare l.views l.bytes l.starts l.lens) l.x) (hash_of l.x) ≡ seek l.places (shows_row l.s (bare l.views l.bytes l.starts l.lens) l.x) l.initial.left l.left)
+
+abbrev pub decreases-loop-left : goal.decreases-loop-left
+decreases-loop-left l = l.left

@@ -1,0 +1,24 @@
+use Rattle.builder.specs.State.{roomed}
+use Rattle.builder.specs.StepLaws.{pick_yes, pick_no}
+use mathlib.Core.Path.{refl}
+use borrow.Author.Rules.{rules}
+use Rattle.values.proofs.make_room.Goals as goal
+
+pub returns-then-fits_open : goal.returns-then-fits_open
+unfolding roomed
+returns-then-fits_open c = (
+  pick_yes _ _ _ _ _ c.fits_open.ensures c.if-fits_open.true refl,
+  pick_yes _ _ _ _ _ c.fits_open.ensures
+      c.if-fits_open.true refl,
+  pick_yes _ _ _ _ _ c.fits_open.ensures c.if-fits_open.true refl,
+)
+
+pub returns : goal.returns
+unfolding roomed
+returns c =
+    (
+      pick_no _ _ _ _ _ c.fits_open.ensures c.if-fits_open.false c.fresh.ensures,
+      pick_no _ _ _ _ _ c.fits_open.ensures c.if-fits_open.false
+          c.put_record.ensures.0,
+      pick_no _ _ _ _ _ c.fits_open.ensures c.if-fits_open.false c.put_record.ensures.1,
+    )

@@ -1,0 +1,12 @@
+use Rattle.builder.specs.StepLaws.{lay-no-block, lay-no-data, lay-fine}
+use borrow.Author.Rules.{rules}
+use Rattle.values.proofs.why_lay.Goals as goal
+
+pub returns-then-no_block : goal.returns-then-no_block
+returns-then-no_block c = lay-no-block _ _ _ _ _ c.no_block.ensures c.if-no_block.true
+
+pub returns-then-bytes-base : goal.returns-then-bytes-base
+returns-then-bytes-base c = lay-no-data _ _ _ _ _ c.no_block.ensures c.if-no_block.false c.if-bytes-base.true
+
+pub returns : goal.returns
+returns c = lay-fine _ _ _ _ _ c.no_block.ensures c.if-no_block.false c.if-bytes-base.false

@@ -1,0 +1,12 @@
+use Rattle.whole.specs.Answer.{number_is}
+use Rattle.whole.specs.RestLaws.{holds-closing}
+use mathlib.Core.Path.{ap, ◌∙◌}
+use borrow.Author.Rules.{rules}
+use Rattle.whole.proofs.closing_piece.Goals as goal
+
+pub returns : goal.returns
+returns c =
+    holds-closing _ _
+    (c.number.ensures ∙ ap number_is c.null_run.ensures)
+    (c.number-2.ensures ∙ ap number_is c.total_bytes_len.ensures)
+    (c.number-3.ensures ∙ ap number_is c.total_buffer_bytes_used.ensures) c.put_closing.ensures

@@ -207,8 +207,7 @@ tambuyeel_told tambuyeel_check(TAMBUYEEL_COLUMN());
    With 11 the row is i on the left column, j on the right one. */
 uint64_t tambuyeel_compare(TAMBUYEEL_COLUMN(), size_t i, TAMBUYEEL_COLUMN(2), size_t j);
 
-/* 2, 11, each tried on the left column first. Whether two columns have as many rows, nulls at the same rows, and equal values at every row that isn't
-   null: 1 or 0. What a null row's view shows doesn't count, but a view that can't be followed is 11 under a null too. */
+/* 2, 11, each tried on the left column first. Whether two columns have as many rows and, at each row, equal null bits and equal shown values: 1 or 0. */
 tambuyeel_told tambuyeel_same_column(TAMBUYEEL_COLUMN(), TAMBUYEEL_COLUMN(2));
 
 /* ----- Marks of element codes. An element code has 4 to 24 bytes from A to Z, 0 to 9 and hyphen, with no hyphen first, last or doubled. A date is a code

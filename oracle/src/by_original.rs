@@ -424,13 +424,16 @@ impl ByOriginal {
         (Answer::Order(text), None)
     }
 
-    /// The question is ours; this is the answer by the rows that the original's iterators give, nulls as `None`.
+    /// The question is ours; this is the answer by the original's reading calls.
     fn same(&self, c: usize, d: usize) -> (Answer, Option<Held>) {
         let (Some(left), Some(right)) = (self.valid(c), self.valid(d)) else {
             return (Answer::Beyond, None);
         };
         let (left, right) = (binary(left), binary(right));
-        (Answer::Number(left.iter().eq(right.iter()) as u64), None)
+        let same = left.len() == right.len()
+            && (0..left.len()).all(|i| left.is_null(i) == right.is_null(i))
+            && left.bytes_iter().eq(right.bytes_iter());
+        (Answer::Number(same as u64), None)
     }
 
     /// A question, which changes nothing.

@@ -5,7 +5,7 @@ use crate::by_original::tried;
 use arrow_array::builder::{BinaryViewBuilder, StringViewBuilder, make_view};
 use arrow_array::types::Utf8Type;
 use arrow_array::{Array, BinaryViewArray, GenericByteArray};
-use arrow_buffer::{BooleanBuffer, Buffer, NullBuffer, OffsetBuffer, ScalarBuffer};
+use arrow_buffer::{Buffer, OffsetBuffer, ScalarBuffer};
 use model::{Growth, Kind, Merge, Refusal, Rooms, State};
 use std::cmp::Ordering;
 
@@ -572,51 +572,6 @@ fn untrue() -> (BinaryViewArray, Rooms, model::Column) {
     (array, lent, c)
 }
 
-/// The bench's case of request K5: a column with one valid bit cleared, and one that was built with a null there.
-fn null_is_null(t: &mut Tally) {
-    let column = |rows: &[Option<&[u8]>]| {
-        let mut ours = Ours::binary(DOUBLING);
-        for row in rows {
-            match row {
-                Some(v) => ours.value(v).unwrap(),
-                None => ours.s = model::append_null(&ours.s, &mut ours.rooms).unwrap(),
-            }
-        }
-        let (_, c) = model::finish(&ours.s, &mut ours.rooms).unwrap();
-        (ours.rooms, c)
-    };
-    let (mut cleared, c) = column(&[Some(b"RO-8040-03MAR"), None, Some(b"RO-8040-03MAY")]);
-    let (built, d) = column(&[Some(b"RO-8040-03MAR"), None, None]);
-    let same = |left: &Rooms| model::same_column(&left.lent(), &c, &built.lent(), &d);
-    let before = same(&cleared);
-    cleared.map[0] &= !4;
-    let hidden = model::value(&cleared.lent(), &c, 2).unwrap();
-    t.that(
-        "same column: one valid bit cleared, and built with a null there",
-        before == Ok(false) && same(&cleared) == Ok(true),
-    );
-    t.that(
-        "same column: what stood there stands under the null",
-        hidden.of(&cleared.views, &cleared.data) == b"RO-8040-03MAY",
-    );
-    let theirs = |rows: [Option<&[u8]>; 3]| rows.into_iter().collect::<BinaryViewArray>();
-    let all = theirs([Some(b"RO-8040-03MAR"), None, Some(b"RO-8040-03MAY")]);
-    let bits = NullBuffer::new(BooleanBuffer::new(Buffer::from(&[0b001u8]), 0, 3));
-    let last = BinaryViewArray::new(all.views().clone(), all.data_buffers().clone(), Some(bits));
-    t.that(
-        "same column: the rows that the original's iterator gives are the same there too",
-        last.iter()
-            .eq(theirs([Some(b"RO-8040-03MAR"), None, None]).iter())
-            && !last.iter().eq(all.iter()),
-    );
-    let (empty, e) = column(&[Some(b""), None]);
-    let (nulls, n) = column(&[None, None]);
-    t.that(
-        "same column: a null is no empty value",
-        model::same_column(&empty.lent(), &e, &nulls.lent(), &n) == Ok(false),
-    );
-}
-
 fn differences_untrue(t: &mut Tally) {
     let (array, lent, c) = untrue();
     let theirs = array.prefix_bytes_iter(1).next().unwrap().to_vec();
@@ -752,7 +707,6 @@ pub fn all() -> Tally {
     differences_builder(&mut t);
     differences_columns(&mut t);
     differences_untrue(&mut t);
-    null_is_null(&mut t);
     block_sizes(&mut t);
     limits(&mut t);
     t

@@ -611,11 +611,10 @@ impl Generator {
                 let j = self.row(other);
                 self.emit(Call::Compare(c, row, d, j))
             }
-            18 => match self.random.below(3) {
-                0 => self.emit(Call::Same(c, c)),
-                1 => self.same_but_hidden(c),
-                _ => self.emit(Call::Same(c, d)),
-            },
+            18 => {
+                let d = if self.random.once_in(3) { c } else { d };
+                self.emit(Call::Same(c, d))
+            }
             19 => self.emit(Call::Check(c)),
             20 => self.emit(Call::List(c)),
             21 => {
@@ -691,30 +690,6 @@ impl Generator {
     }
 
     /// A column spelled out from another one: rows before it, gaps between its blocks, and mostly some damage.
-    /// Two columns spelled out that differ under nulls alone, and the question whether they are the same.
-    fn same_but_hidden(&mut self, c: usize) {
-        let Some(mut held) = self.columns[c].clone() else {
-            return;
-        };
-        for valid in &mut held.valid {
-            *valid = *valid && !self.random.once_in(3);
-        }
-        let mut other = held.clone();
-        for (row, valid) in held.valid.iter().enumerate() {
-            if !valid {
-                other.views[row] = *self.random.pick(&held.views);
-            }
-        }
-        let d = self.column();
-        let e = (d + 1) % COLUMNS as usize;
-        for (to, shown) in [(d, held), (e, other)] {
-            let first = *self.random.pick(&[0, 1, 7]);
-            let raw = spelled(&mut self.random, &shown, first, self.column_kinds[c]);
-            self.emit(Call::Raw(to, raw));
-        }
-        self.emit(Call::Same(d, e))
-    }
-
     fn raw(&mut self, c: usize, d: usize) {
         let Some(held) = self.columns[c].clone() else {
             return;

@@ -101,27 +101,6 @@ fn orders(random: &mut Random, column: &ByteViewArray, list: &[Option<Vec<u8>>])
     }
 }
 
-/// Rows of a built column made null in a map of the caller's: the same as a column built with nulls there, whatever stands under them.
-#[test]
-fn a_null_is_a_null() {
-    let mut random = Random(11);
-    for _ in 0..200 {
-        let list = random.values(60);
-        let column = ByteViewArray::try_from_iter(Kind::Binary, list.iter().map(Option::as_ref)).unwrap();
-        let kept: Vec<bool> = list.iter().map(|v| v.is_some() && random.below(3) > 0).collect();
-        let mut map = vec![0u8; list.len().div_ceil(8)];
-        (0..list.len()).filter(|row| kept[*row]).for_each(|row| map[row / 8] |= 1 << (row % 8));
-        let cleared = ByteViewColumn::new(Kind::Binary, Buffers { nulls: Some(&map), ..column.buffers() });
-        let rows: Vec<_> = list.iter().zip(&kept).map(|(v, keep)| v.clone().filter(|_| *keep)).collect();
-        let mut builder = random.builder(Kind::Binary);
-        rows.iter().for_each(|v| builder.append_option(v.as_ref()).unwrap());
-        let built = builder.finish();
-        assert!(cleared.same_column(&built).unwrap() && built.same_column(cleared).unwrap());
-        assert!(cleared.same_column(&cleared.gc().unwrap()).unwrap());
-        assert_eq!(cleared.same_column(&column).unwrap(), rows == list);
-    }
-}
-
 #[test]
 fn a_block_takes_what_fills_it() {
     for (size, blocks) in [(20, 2), (25, 2), (26, 1), (27, 1)] {

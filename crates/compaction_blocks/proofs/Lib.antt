@@ -2,4 +2,3 @@ pub mod PlanLaws
 pub mod TurnLaws
 pub mod Again
 pub mod Only
-pub mod Exit

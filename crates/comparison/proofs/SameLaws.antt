@@ -1,6 +1,6 @@
 -- Sameness row by row, and the answer by the verdict. Assumes nothing.
 use mathlib.Core.Path.{◌≡◌, refl, sym, ap}
-use mathlib.Core.Bool.{Bool, true, false, not, ◌&&◌, ◌||◌, beq}
+use mathlib.Core.Bool.{Bool, true, false, not, ◌&&◌, beq}
 use mathlib.Core.List.{List}
 use Prim.Native.Nat.{ℕ, zero, suc, ◌+◌, ◌<◌}
 use native.Mathlib.Nat.{not-suc-le-zero}
@@ -63,30 +63,22 @@ module _ (l : Lent) (c : Column) (m : Lent) (d : Column) where
     unfolding same_row row_valid alike
     bits-differ ne = rw (← hv, ← hw) (by v w ne)
       where
-        by : (v w : Bool) → not (beq v w) ≡ true → false ≡ (alike v w && (not v || same (shown_at l c r) (shown_at m d r)))
+        by : (v w : Bool) → not (beq v w) ≡ true → false ≡ (alike v w && same (shown_at l c r) (shown_at m d r))
         by true true ne = let z : ◌≡◌ {A = ℕ} 0 1 = cc in absurd (omega arith)
         by true false ne = refl
         by false true ne = refl
         by false false ne = let z : ◌≡◌ {A = ℕ} 0 1 = cc in absurd (omega arith)
 
-    pub both-null : not (beq v w) ≡ false → not v ≡ true → true ≡ same_row l c m d r
-    unfolding same_row row_valid alike
-    both-null e n = rw (← hv, ← hw) (by v w e n)
-      where
-        by : (v w : Bool) → not (beq v w) ≡ false → not v ≡ true → true ≡ (alike v w && (not v || same (shown_at l c r) (shown_at m d r)))
-        by true w e n = let z : ◌≡◌ {A = ℕ} 0 1 = cc in absurd (omega arith)
-        by false true e n = let z : ◌≡◌ {A = ℕ} 0 1 = cc in absurd (omega arith)
-        by false false e n = refl
-
-    pub both-valid : not (beq v w) ≡ false → not v ≡ false → (t : Bool) → t ≡ same (shown (blocks_of l c.blocks) (row_view l c r))
+    pub bits-alike : not (beq v w) ≡ false → (t : Bool) → t ≡ same (shown (blocks_of l c.blocks) (row_view l c r))
         (shown (blocks_of m d.blocks) (row_view m d r)) → t ≡ same_row l c m d r
     unfolding same_row row_valid shown_at alike
-    both-valid e n t h = rw (← hv, ← hw, ← h) (by v w e n)
+    bits-alike e t h = rw (← hv, ← hw, ← h) (by v w e)
       where
-        by : (v w : Bool) → not (beq v w) ≡ false → not v ≡ false → t ≡ (alike v w && (not v || t))
-        by true true e n = refl
-        by true false e n = let z : ◌≡◌ {A = ℕ} 0 1 = cc in absurd (omega arith)
-        by false w e n = let z : ◌≡◌ {A = ℕ} 0 1 = cc in absurd (omega arith)
+        by : (v w : Bool) → not (beq v w) ≡ false → t ≡ (alike v w && t)
+        by true true e = refl
+        by true false e = let z : ◌≡◌ {A = ℕ} 0 1 = cc in absurd (omega arith)
+        by false true e = let z : ◌≡◌ {A = ℕ} 0 1 = cc in absurd (omega arith)
+        by false false e = refl
 
   both_true : (a b : Bool) → a ≡ true → b ≡ true → a && b ≡ true
   both_true a b e h = rw (e, h)

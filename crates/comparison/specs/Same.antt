@@ -1,6 +1,5 @@
--- Same column: row counts and nulls agree, and the values agree at every row that isn't null. What a null row's view shows doesn't count.
--- Assumes nothing.
-use Rattle.std.specs.Prelude.{Bool, true, false, not, ◌&&◌, ◌||◌, ℕ, zero, suc, eqb}
+-- Same column: equal row counts and, at each row, equal null bits and equal shown values. Assumes nothing.
+use Rattle.std.specs.Prelude.{Bool, true, false, not, ◌&&◌, ℕ, zero, suc, eqb}
 use Rattle.order.specs.Order.{same}
 use Rattle.bounds.specs.Refusals.{refuse}
 use Rattle.bounds.specs.declared.Refusal.TheVariants.{Fit}
@@ -16,7 +15,7 @@ use Rattle.comparison.specs.declared.Sameness.{Sameness}
 use Rattle.comparison.specs.declared.Sameness.TheVariants as sameness
 use Rattle.comparison.specs.Compare.{both_of}
 
--- 2, 11: every row, a null one too
+-- 2, 11: every row
 unfoldable pub why_all : Lent → Column → Why
 why_all l c = refuse Fit (not (fits l c)) (lowest (reachable_at l c) c.rows why.Accepted)
 
@@ -29,7 +28,7 @@ alike true b = b
 alike false b = not b
 
 unfoldable pub same_row : Lent → Column → Lent → Column → ℕ → Bool
-same_row l c m d r = alike (row_valid l c r) (row_valid m d r) && (not (row_valid l c r) || same (shown_at l c r) (shown_at m d r))
+same_row l c m d r = alike (row_valid l c r) (row_valid m d r) && same (shown_at l c r) (shown_at m d r)
 
 unfoldable pub same_rows : Lent → Column → Lent → Column → ℕ → Bool
 same_rows l c m d zero = true

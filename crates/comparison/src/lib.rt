@@ -1,4 +1,4 @@
-// Two rows of two columns in byte order by their views, and whether two columns are the same.
+// Two rows of two columns in byte order by their views, and whether two columns show the same.
 #![tactic(auto)]
 
 ghost use Rattle.std.specs.Prelude.{◌≡◌, ◌&&◌, List, ℕ, ◌+◌, ◌*◌, ◌≤◌, length};
@@ -239,7 +239,7 @@ fn why_all(
     judge_rows(views, bytes, starts, lens, c)
 }
 
-// Whether row k of two columns is null in both, or is in neither and shows equal values.
+// Whether row k of two columns has equal null bits and shows equal values.
 fn same_row<'a>(
     views: &'a [u8],
     bytes: &'a [u8],
@@ -263,9 +263,6 @@ fn same_row<'a>(
     let valid2 = null_bits::valid_at(nulls2, d.mapped, d.first + k);
     if valid != valid2 {
         return false;
-    }
-    if !valid {
-        return true;
     }
     let x = column::value_part(views, bytes, starts, lens, c.blocks, c.first + k);
     let y = column::value_part(views2, bytes2, starts2, lens2, d.blocks, d.first + k);
@@ -304,7 +301,7 @@ fn same_rows<'a>(
     true
 }
 
-// Whether two columns have as many rows, nulls at the same rows, and equal values at every other.
+// Whether two columns have as many rows and, at each row, equal null bits and equal shown values.
 pub fn same_column<'a>(
     views: &'a [u8],
     bytes: &'a [u8],

@@ -10,14 +10,18 @@ use denote.Triple.Clauses.{AtExit}
 use borrow.Fn.Kinds.{Dens, res_t, ended_of}
 use Rattle.compaction.proofs.compact.Kinds as compact-kinds
 use Rattle.compaction.proofs.compact.Reads as compact
+use Rattle.bounds.specs.Refusals.{if_accepted, is_accepted}
+use Rattle.bounds.specs.declared.Why.{Why}
 use Rattle.bounds.specs.declared.Why.TheVariants.{Accepted}
 use Rattle.views.specs.View.{length_of}
 use Rattle.column.specs.declared.Block.{Block}
 use Rattle.column.specs.declared.Column.{Column}
-use Rattle.column.specs.Lent.{Lent, block, block_at}
+use Rattle.column.specs.Lent.{Lent, buffers, block, block_at}
 use Rattle.column.specs.Meaning.{row_view}
-use Rattle.compaction.specs.Compact.{new_lens, why_compact, compacted, compact_column}
-use Rattle.compaction_blocks.proofs.Exit.{why-records, column-records, lent-records}
+use Rattle.laying.specs.RoomLaws.{taken}
+use Rattle.compaction.specs.declared.Outcome.{Outcome}
+use Rattle.compaction.specs.Compact.{new_lens, why_compact, compacted, compact_column, compact_of}
+use Rattle.compaction_blocks.specs.Compacts.{Compacts}
 use Rattle.promise.specs.Answered.{lent_as}
 use Rattle.promise.proofs.Compactions.{new-lens}
 use Rattle.promise.proofs.Outputs.{compact-of, compact-in, compact-out, compact-answers}
@@ -56,6 +60,26 @@ module _ (most : ℕ) (l : Lent) (c : Column) (out : Lent) (a : why_compact most
       }
 
 -- ---- what the calls answer
+
+module _ (most : ℕ) (l : Lent) (c : Column) (out : Lent) (r : Outcome) (vs bs : List ℕ) (t : List Block) (ms : List ℕ)
+    (p : Compacts most l c out r vs bs t ms) (e : r.why ≡ Accepted) where
+  why-records : why_compact most l c out ≡ Accepted
+  unfolding compact_of
+  why-records = sym (ap (λ (o : Outcome). o.why) p.answer) ∙ e
+
+  column-records : compact_column most l c ≡ r.column
+  unfolding compact_of
+  column-records = sym (ap (λ (o : Outcome). o.column) p.answer ∙ ap (λ (y : Why). if_accepted y (compact_column most l c) c) why-records)
+
+  lent-records : compacted most l c out ≡ buffers vs bs t ms
+  lent-records =
+      let y : Why = why_compact most l c out in
+      let w = ap is_accepted why-records in
+      let v = taken y (compacted most l c out).views out.views vs w p.views in
+      let b = taken y (compacted most l c out).bytes out.bytes bs w p.bytes in
+      let s = taken y (compacted most l c out).table out.table t w p.table in
+      let m = taken y (compacted most l c out).nulls out.nulls ms w p.nulls in
+      sym (λ i. buffers (v i) (b i) (s i) (m i))
 
 pub no-fewer : NoFewer
 no-fewer =

@@ -107,7 +107,7 @@ continued =
           (convert-why s k o r o' m) refl);
     }
 
-pub made : (xs : List Item) {b : Buffers} {c : Column} → Answered xs b c → Made xs (lent_as b) c
+made : (xs : List Item) {b : Buffers} {c : Column} → Answered xs b c → Made xs (lent_as b) c
 made xs (finished_by t ps r ps' h m cs e e₁ d f e₂ n) =
     let run : Ran (map call cs) (start t (lent_as (column_in h)) ps) (held_in e₁) =
     subst (λ (b : Builder). Ran (map call cs) b (held_in e₁)) (start-held t ps r ps' h m) (coded.runs (map call cs) h e₁ d) in

@@ -74,7 +74,7 @@ fn all_reached(lent: &Lent, c: &Column, side: Side) -> Result<(), Refusal> {
     Ok(())
 }
 
-/// Whether row counts and nulls agree, and the values at every row that isn't null (K5).
+/// Whether row counts are equal and, at each row, null bits and shown values.
 pub fn same_column(left: &Lent, lc: &Column, right: &Lent, rc: &Column) -> Result<bool, Refusal> {
     fits(left, lc)?;
     fits(right, rc)?;
@@ -87,8 +87,7 @@ pub fn same_column(left: &Lent, lc: &Column, right: &Lent, rc: &Column) -> Resul
         let a = reached(left, lc, row)?;
         let b = reached(right, rc, row)?;
         let values = a.of(left.views, left.data) == b.of(right.views, right.data);
-        let valid = bit(left, lc, row);
-        if valid != bit(right, rc, row) || valid && !values {
+        if !values || bit(left, lc, row) != bit(right, rc, row) {
             return Ok(false);
         }
     }

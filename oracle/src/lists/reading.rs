@@ -7,7 +7,7 @@ use crate::by_original::ByOriginal;
 use crate::generate::{For, damage, damage_by, spelled, values_of};
 use crate::random::Random;
 use crate::script::{Call, Raw};
-use model::{Column, Order, Part, Refusal, Side};
+use model::{Order, Part, Refusal, Side};
 
 /// Groups of columns, and questions of each.
 const GROUPS: usize = 110;
@@ -238,33 +238,14 @@ pub struct Group {
     pub questions: Vec<Question>,
 }
 
-/// Makes a row null in two equal columns that have a map, and puts another row's view there on the right: they differ under
-/// that null alone.
-fn hide_apart(random: &mut Random, left: &mut Raw, right: &mut Raw) {
-    let Column { first, rows, .. } = left.column;
-    let (row, other) = (random.below(rows.max(1)), random.below(rows.max(1)));
-    let at = |row: u64| first.saturating_add(row).min(1 << 20) as usize;
-    let byte = at(row) / 8;
-    let (from, to) = (16 * at(other), 16 * at(row));
-    if !left.column.mapped || byte >= left.map.len() || from.max(to) + 16 > left.views.len() {
-        return;
-    }
-    left.map[byte] &= !(1 << (at(row) % 8));
-    right.map[byte] &= !(1 << (at(row) % 8));
-    right.views.copy_within(from..from + 16, to);
-}
-
 /// Panics where the original, as far as it can be asked, answers otherwise.
-fn group(random: &mut Random, hiding: &mut Random, valid: bool, questions: usize) -> Group {
-    let mut left = column(random, !valid);
+fn group(random: &mut Random, valid: bool, questions: usize) -> Group {
+    let left = column(random, !valid);
     let mut right = if random.once_in(3) {
         left.clone()
     } else {
         column(random, false)
     };
-    if left == right && hiding.once_in(2) {
-        hide_apart(hiding, &mut left, &mut right);
-    }
     if !valid && random.once_in(2) {
         let way = random.below(18);
         damage_by(random, &mut right, way);
@@ -299,8 +280,8 @@ fn group(random: &mut Random, hiding: &mut Random, valid: bool, questions: usize
 
 /// Groups without end, valid and damaged ones in turn.
 pub fn groups(seed: u64, questions: usize) -> impl Iterator<Item = Group> {
-    let (mut random, mut hiding) = (Random::new(seed), Random::new(!seed));
-    (0..).map(move |k| group(&mut random, &mut hiding, k % 2 == 0, questions))
+    let mut random = Random::new(seed);
+    (0..).map(move |k| group(&mut random, k % 2 == 0, questions))
 }
 
 /// reading.bin.

@@ -1,4 +1,4 @@
-//! Times of reading, comparison, same column, totals and the check, ours beside the original's, on the same columns, and value and comparison also beside safe Rust that
+//! Times of reading, comparison, totals and the check, ours beside the original's, on the same columns, and value and comparison also beside safe Rust that
 //! makes the same tests (src/safe.rs). A batch is one call on each side, rounds alternate, and every batch's answer is held against the other's before it
 //! is timed. Prints the ratio of the best times, the median of the ratios of neighbouring rounds (below 1: ours is faster), the target, the same beside safe
 //! Rust, the best times for one row, and the cost of twice as many rows. Sides: 0 ours, 1 the original's, 2 safe Rust.
@@ -42,12 +42,6 @@ mod original {
             n += (order == Ordering::Less) as u64;
         }
         n
-    }
-
-    /// Whether two arrays give the same rows, nulls as nulls.
-    #[inline(never)]
-    pub fn same(a: &BinaryViewArray, b: &BinaryViewArray) -> u64 {
-        a.iter().eq(b.iter()) as u64
     }
 
     #[inline(never)]
@@ -165,19 +159,6 @@ fn comparison(ask: &Ask) {
     }
 }
 
-/// Two columns of equal rows, each with its own blocks.
-fn sameness(ask: &Ask) {
-    for (name, from, to, null) in
-        [("same column, 0 to 12 bytes", 0, 12, 0), ("same column, 13 to 40 bytes", 13, 40, 0), ("same column, 13 to 40 bytes, half of them null", 13, 40, 2)]
-    {
-        rows(ask, name, |n| {
-            let (a, b) = (binary(n, from, to, null), binary(n, from, to, null));
-            let (l, m) = (Lent::of_array(&a, false), Lent::of_array(&b, false));
-            row(ask, name, 0.0, n, &mut || l.same_column(&m).number, &mut || original::same(&a, &b))
-        });
-    }
-}
-
 fn totals(ask: &Ask) {
     for (name, null) in [("total_bytes_len, no map", 0), ("total_bytes_len, one row in 5 null", 5)] {
         rows(ask, name, |n| {
@@ -219,7 +200,6 @@ fn main() {
     println!("| work | best | median | target | of safe Rust | target | ours, ns a row | Rust | safe Rust |\n|---|---|---|---|---|---|---|---|---|");
     reading(&ask);
     comparison(&ask);
-    sameness(&ask);
     totals(&ask);
     checks(&ask);
 }

@@ -6,7 +6,7 @@ use Rattle.bounds.specs.Bounds.{row-limit-small}
 use Rattle.column.specs.FitLaws.{fits_gives}
 use Rattle.column.specs.ReachLaws.{shown-bare}
 use Rattle.order.specs.Order.{same}
-use Rattle.comparison.proofs.SameLaws.{bits-differ, both-null, both-valid}
+use Rattle.comparison.proofs.SameLaws.{bits-differ, bits-alike}
 use Rattle.comparison.specs.VerdictLaws.{readable}
 use Rattle.comparison.proofs.same_row.Goals as goal
 
@@ -29,10 +29,6 @@ valid_at-valid2-requires c =
 pub returns-then-valid-valid2 : goal.returns-then-valid-valid2
 returns-then-valid-valid2 c = bits-differ _ _ _ _ _ _ _ c.valid_at-valid.ensures c.valid_at-valid2.ensures c.if-valid-valid2.true
 
-pub returns-then-not-valid : goal.returns-then-not-valid
-returns-then-not-valid c = both-null _ _ _ _ _ _ _ c.valid_at-valid.ensures c.valid_at-valid2.ensures c.if-valid-valid2.false
-    c.if-not-valid.true
-
 pub overflow_add-c-2 : goal.overflow_add-c-2
 overflow_add-c-2 c =
     let p = c.requires in let g = fits_gives _ _ _ _ _ _ p.fit in omega (arith, row-limit-small)
@@ -51,7 +47,6 @@ value_part-y-requires c =
 
 pub returns : goal.returns
 returns c =
-    both-valid _ _ _ _ _ _ _ c.valid_at-valid.ensures c.valid_at-valid2.ensures
-    c.if-valid-valid2.false c.if-not-valid.false _ (c.same.ensures
-    ∙ ap₂ same (c.value_part-x.ensures.0 ∙ shown-bare _ _ _ _ _ _ _) (c.value_part-y.ensures.0
-    ∙ shown-bare _ _ _ _ _ _ _))
+    bits-alike _ _ _ _ _ _ _ c.valid_at-valid.ensures c.valid_at-valid2.ensures
+    c.if-valid-valid2.false _ (c.same.ensures ∙ ap₂ same (c.value_part-x.ensures.0
+    ∙ shown-bare _ _ _ _ _ _ _) (c.value_part-y.ensures.0 ∙ shown-bare _ _ _ _ _ _ _))

@@ -1,4 +1,0 @@
-pub mod Meant
-pub mod Cleared
-pub mod Sameness
-pub mod Examples

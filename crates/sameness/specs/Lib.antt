@@ -1,4 +1,0 @@
-pub mod Agreeing
-pub mod Clearing
-pub mod Sameness
-pub mod Examples

@@ -11,14 +11,14 @@ use borrow.Author.Rules.{rules}
 use Rattle.appending.proofs.append_block.Goals as goal
 
 pub returns-then-not-is_accepted : goal.returns-then-not-is_accepted
-returns-then-not-is_accepted c = does-not-block _ _ _ _ _ _ _ _ _ c.why_block-w.ensures (sym c.is_accepted.ensures ∙ not-true _ c.if-not-is_accepted.true)
+returns-then-not-is_accepted c = does-not-block _ _ _ _ _ _ _ _ _ c.why_block-w.ensures (sym c.is_accepted.ensures ∙ c.if-not-is_accepted.true)
 
 pub put_record-requires : goal.put_record-requires
 put_record-requires c =
     let a = c.args in
     let j = blocked a.s a.views.now a.bytes.now a.starts.now a.lens.now a.nulls.now a.places.now a.x.now
     (ap is_accepted (sym c.why_block-w.ensures) ∙ (sym c.is_accepted.ensures
-    ∙ not-false _ c.if-not-is_accepted.false)) in
+    ∙ c.if-not-is_accepted.false)) in
     let f = j.fit in
     (f.starts, f.lens)
 
@@ -28,7 +28,7 @@ close-t-requires c =
     let j = blocked a.s a.views.now a.bytes.now a.starts.now a.lens.now a.nulls.now a.places.now a.x.now
     (ap is_accepted (sym c.why_block-w.ensures)
     ∙ (sym c.is_accepted.ensures
-    ∙ not-false _ c.if-not-is_accepted.false)) in
+    ∙ c.if-not-is_accepted.false)) in
     let f = j.fit in
     (omega (arith, f.blocks, block-limit-small), omega (arith, f.small, byte-limit-small))
 
@@ -38,7 +38,7 @@ put_block-requires c =
     let a = c.args in
     let j = blocked a.s a.views.now a.bytes.now a.starts.now a.lens.now a.nulls.now a.places.now a.x.now
     (ap is_accepted (sym c.why_block-w.ensures) ∙ (sym c.is_accepted.ensures
-    ∙ not-false _ c.if-not-is_accepted.false)) in
+    ∙ c.if-not-is_accepted.false)) in
     let f = j.fit in
     let b = ap (λ (z : State). z.blocks) c.close-t.ensures in
     let d = ap (λ (z : State). z.base) c.close-t.ensures in
@@ -53,7 +53,7 @@ block_more-u-requires c =
     let j = blocked a.s a.views.now a.bytes.now a.starts.now a.lens.now a.nulls.now a.places.now a.x.now
     (ap is_accepted (sym c.why_block-w.ensures)
     ∙ (sym c.is_accepted.ensures
-    ∙ not-false _ c.if-not-is_accepted.false)) in
+    ∙ c.if-not-is_accepted.false)) in
     let f = j.fit in
     let b = ap (λ (z : State). z.blocks) c.close-t.ensures in
     let d = ap (λ (z : State). z.base) c.close-t.ensures in
@@ -61,6 +61,6 @@ block_more-u-requires c =
 
 pub returns : goal.returns
 returns c =
-    does-block _ _ _ _ _ _ _ _ _ _ c.why_block-w.ensures (sym c.is_accepted.ensures ∙ not-false _ c.if-not-is_accepted.false) c.close-t.ensures
+    does-block _ _ _ _ _ _ _ _ _ _ c.why_block-w.ensures (sym c.is_accepted.ensures ∙ c.if-not-is_accepted.false) c.close-t.ensures
     c.put_record.ensures.0 c.put_record.ensures.1 c.block_more-u.ensures c.put_block.ensures.0 c.put_block.ensures.1
     c.put_block.ensures.2

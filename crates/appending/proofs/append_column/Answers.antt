@@ -16,7 +16,7 @@ use borrow.Author.Rules.{rules}
 use Rattle.appending.proofs.append_column.Goals as goal
 
 pub returns-then-not-is_accepted : goal.returns-then-not-is_accepted
-returns-then-not-is_accepted c = does-no _ _ _ _ _ _ _ _ _ _ c.why_column-w.ensures (sym c.is_accepted.ensures ∙ not-true _ c.if-not-is_accepted.true)
+returns-then-not-is_accepted c = does-no _ _ _ _ _ _ _ _ _ _ c.why_column-w.ensures (sym c.is_accepted.ensures ∙ c.if-not-is_accepted.true)
 
 pub put_record-requires : goal.put_record-requires
 put_record-requires c =
@@ -24,7 +24,7 @@ put_record-requires c =
     let k = taken a.s a.views.now a.bytes.now a.starts.now a.lens.now a.nulls.now a.places.now a.srcviews.now
     a.srcbytes.now a.srcstarts.now a.srclens.now a.srcnulls.now a.c
     (ap is_accepted (sym c.why_column-w.ensures) ∙ (sym c.is_accepted.ensures
-    ∙ not-false _ c.if-not-is_accepted.false)) in
+    ∙ c.if-not-is_accepted.false)) in
     let f = k.fit in
     (f.starts, f.lens)
 
@@ -35,7 +35,7 @@ close-t-requires c =
     a.srcbytes.now a.srcstarts.now a.srclens.now a.srcnulls.now a.c
     (ap is_accepted (sym c.why_column-w.ensures)
     ∙ (sym c.is_accepted.ensures
-    ∙ not-false _ c.if-not-is_accepted.false)) in
+    ∙ c.if-not-is_accepted.false)) in
     let f = k.fit in
     (omega (arith, f.blocks, block-limit-small), omega (arith, f.small, byte-limit-small))
 
@@ -45,7 +45,7 @@ put_blocks-end-requires c =
     let k = taken a.s a.views.now a.bytes.now a.starts.now a.lens.now a.nulls.now a.places.now a.srcviews.now
     a.srcbytes.now a.srcstarts.now a.srclens.now a.srcnulls.now a.c
     (ap is_accepted (sym c.why_column-w.ensures) ∙ (sym c.is_accepted.ensures
-    ∙ not-false _ c.if-not-is_accepted.false)) in
+    ∙ c.if-not-is_accepted.false)) in
     let f = k.fit in
     let e1 : length c.put_record.new.1.0 ≡ length a.starts.now = search rules in
     let e2 : length c.put_record.new.1.1.0 ≡ length a.lens.now = search rules in
@@ -60,7 +60,7 @@ put_rows-requires c =
     a.srcbytes.now a.srcstarts.now a.srclens.now a.srcnulls.now a.c
     (ap is_accepted (sym c.why_column-w.ensures)
     ∙ (sym c.is_accepted.ensures
-    ∙ not-false _ c.if-not-is_accepted.false)) in
+    ∙ c.if-not-is_accepted.false)) in
     let f = k.fit in
     let b = ap (λ (z : State). z.blocks) c.close-t.ensures in
     (k.views, k.source.views, omega (arith, b, k.limit, block-limit-small))
@@ -72,7 +72,7 @@ copy_column-requires c =
     a.srcbytes.now a.srcstarts.now a.srclens.now a.srcnulls.now a.c
     (ap is_accepted (sym c.why_column-w.ensures)
     ∙ (sym c.is_accepted.ensures
-    ∙ not-false _ c.if-not-is_accepted.false)) in
+    ∙ c.if-not-is_accepted.false)) in
     let f = k.fit in
     (k.bits, omega (arith, k.rows, row-limit-small), k.source.bits, omega (arith, k.source.rows, row-limit-small))
 
@@ -93,7 +93,7 @@ column_more-u-requires c =
     a.srcbytes.now a.srcstarts.now a.srclens.now a.srcnulls.now a.c
     (ap is_accepted (sym c.why_column-w.ensures)
     ∙ (sym c.is_accepted.ensures
-    ∙ not-false _ c.if-not-is_accepted.false)) in
+    ∙ c.if-not-is_accepted.false)) in
     let f = k.fit in
     let b = ap (λ (z : State). z.blocks) c.close-t.ensures in
     let r = ap (λ (z : State). z.rows) c.close-t.ensures in
@@ -118,7 +118,7 @@ returns c =
     let a = c.args in
     does-column a.s a.views.now a.bytes.now a.starts.now a.lens.now a.nulls.now a.places.now a.srcviews.now
     a.srcbytes.now a.srcstarts.now a.srclens.now a.srcnulls.now a.c _ _ c.why_column-w.ensures
-    (sym c.is_accepted.ensures ∙ not-false _ c.if-not-is_accepted.false) c.close-t.ensures c.put_record.ensures.0
+    (sym c.is_accepted.ensures ∙ c.if-not-is_accepted.false) c.close-t.ensures c.put_record.ensures.0
     c.put_record.ensures.1 c.put_blocks-end.ensures.0 c.put_blocks-end.ensures.1 c.put_blocks-end.ensures.2
     c.put_blocks-end.ensures.3 c.put_rows.ensures c.copy_column.ensures
     (c.flag-some.ensures ∙ ap (λ (z : ℕ). pick (eqb z 0) a.s.nulled true) c.count_nulls.ensures) c.column_more-u.ensures

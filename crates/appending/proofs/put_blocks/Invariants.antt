@@ -13,10 +13,10 @@ use borrow.Author.Rules.{rules}
 use Rattle.appending.proofs.put_blocks.Given as goal
 
 abbrev pub invariant-loop-k : goal.invariant-loop-k
-invariant-loop-k l = (l.k ≤ l.src) × (length l.n ≡ length l.initial.bytes)
-    × (length l.initial.at ≡ length l.bytes) × (length l.at ≡ length l.initial.starts) × (l.initial.k ≡ end_from (block_bytes (bare [] l.lens l.first l.base)) l.k l.initial.lens)
-    × (l.n ≡ put_data (block_bytes (bare [] l.lens l.first l.base)) l.k l.initial.bytes l.initial.lens) × (l.initial.at ≡ put_starts (block_bytes (bare [] l.lens l.first l.base))
-    l.k l.bytes l.starts l.initial.lens) × (l.at ≡ put_lens (block_bytes (bare [] l.lens l.first l.base)) l.k l.initial.starts l.starts)
+invariant-loop-k l = (l.k ≤ l.n) × (length l.bytes ≡ length l.initial.bytes)
+    × (length l.starts ≡ length l.initial.starts) × (length l.lens ≡ length l.initial.lens) × (l.at ≡ end_from (block_bytes (bare [] l.src l.srcstarts l.srclens)) l.k l.base)
+    × (l.bytes ≡ put_data (block_bytes (bare [] l.src l.srcstarts l.srclens)) l.k l.initial.bytes l.base) × (l.starts ≡ put_starts (block_bytes (bare [] l.src l.srcstarts l.srclens))
+    l.k l.initial.starts l.first l.base) × (l.lens ≡ put_lens (block_bytes (bare [] l.src l.srcstarts l.srclens)) l.k l.initial.lens l.first)
 
 abbrev pub decreases-loop-k : goal.decreases-loop-k
-decreases-loop-k l = l.src - l.k
+decreases-loop-k l = l.n - l.k

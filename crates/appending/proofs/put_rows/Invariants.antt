@@ -12,8 +12,8 @@ use borrow.Author.Rules.{rules}
 use Rattle.appending.proofs.put_rows.Given as goal
 
 abbrev pub invariant-loop-k : goal.invariant-loop-k
-invariant-loop-k l = (l.k ≤ l.from) × (length l.initial.k ≡ length l.initial.views)
-    × (l.initial.k ≡ put_from (λ q. renumbered l.n (view_at l.to (l.src + q))) l.k l.initial.views l.views)
+invariant-loop-k l = (l.k ≤ l.n) × (length l.views ≡ length l.initial.views)
+    × (l.views ≡ put_from (λ q. renumbered l.before (view_at l.src (l.from + q))) l.k l.initial.views l.to)
 
 abbrev pub decreases-loop-k : goal.decreases-loop-k
-decreases-loop-k l = l.from - l.k
+decreases-loop-k l = l.n - l.k

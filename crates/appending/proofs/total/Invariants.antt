@@ -9,7 +9,7 @@ use borrow.Author.Rules.{rules}
 use Rattle.appending.proofs.total.Given as goal
 
 abbrev pub invariant-loop-k : goal.invariant-loop-k
-invariant-loop-k l = (l.k ≤ l.n) × (l.initial.k ≡ lens_total l.lens l.k) × (l.initial.k ≤ 16777216 * l.k)
+invariant-loop-k l = (l.k ≤ l.n) × (l.t ≡ lens_total l.lens l.k) × (l.t ≤ 16777216 * l.k)
 
 abbrev pub decreases-loop-k : goal.decreases-loop-k
 decreases-loop-k l = l.n - l.k

@@ -11,14 +11,14 @@ use borrow.Author.Rules.{rules}
 use Rattle.appending.proofs.view_call.Goals as goal
 
 pub returns-then-not-is_accepted : goal.returns-then-not-is_accepted
-returns-then-not-is_accepted c = does-no _ _ _ _ _ _ _ _ _ _ c.why_view-w.ensures (sym c.is_accepted.ensures ∙ not-true _ c.if-not-is_accepted.true)
+returns-then-not-is_accepted c = does-no _ _ _ _ _ _ _ _ _ _ c.why_view-w.ensures (sym c.is_accepted.ensures ∙ c.if-not-is_accepted.true)
 
 pub bounds-starts-block : goal.bounds-starts-block
 bounds-starts-block c =
     let a = c.args in
     let g = seen a.s a.views.now a.bytes.now a.starts.now a.lens.now a.nulls.now a.places.now a.block a.offset
     a.n (ap is_accepted (sym c.why_view-w.ensures) ∙ (sym c.is_accepted.ensures
-    ∙ not-false _ c.if-not-is_accepted.false)) in
+    ∙ c.if-not-is_accepted.false)) in
     let f = fits_gives a.s a.views.now a.bytes.now a.starts.now a.lens.now a.nulls.now a.places.now g.fit in
     omega (arith, f.starts, all-bounds a.s, g.there)
 
@@ -27,7 +27,7 @@ overflow_add-a c =
     let a = c.args in
     let g = seen a.s a.views.now a.bytes.now a.starts.now a.lens.now a.nulls.now a.places.now a.block a.offset
     a.n (ap is_accepted (sym c.why_view-w.ensures) ∙ (sym c.is_accepted.ensures
-    ∙ not-false _ c.if-not-is_accepted.false)) in
+    ∙ c.if-not-is_accepted.false)) in
     let i = seen-inside a.s a.views.now a.bytes.now a.starts.now a.lens.now a.nulls.now a.places.now a.block
     a.offset a.n g in
     omega (arith, i, byte-limit-small)
@@ -37,7 +37,7 @@ overflow_add-e c =
     let a = c.args in
     let g = seen a.s a.views.now a.bytes.now a.starts.now a.lens.now a.nulls.now a.places.now a.block a.offset
     a.n (ap is_accepted (sym c.why_view-w.ensures) ∙ (sym c.is_accepted.ensures
-    ∙ not-false _ c.if-not-is_accepted.false)) in
+    ∙ c.if-not-is_accepted.false)) in
     let i = seen-inside a.s a.views.now a.bytes.now a.starts.now a.lens.now a.nulls.now a.places.now a.block
     a.offset a.n g in
     omega (arith, i, byte-limit-small)
@@ -47,7 +47,7 @@ overflow_mul-rows c =
     let a = c.args in
     let g = seen a.s a.views.now a.bytes.now a.starts.now a.lens.now a.nulls.now a.places.now a.block a.offset
     a.n (ap is_accepted (sym c.why_view-w.ensures) ∙ (sym c.is_accepted.ensures
-    ∙ not-false _ c.if-not-is_accepted.false)) in
+    ∙ c.if-not-is_accepted.false)) in
     let r = room-gives a.s a.views.now a.bytes.now a.starts.now a.lens.now a.nulls.now a.places.now g.room in
     omega (arith, r.rows, row-limit-small)
 
@@ -56,7 +56,7 @@ slice_bounds-put_view-end c =
     let a = c.args in
     let g = seen a.s a.views.now a.bytes.now a.starts.now a.lens.now a.nulls.now a.places.now a.block a.offset
     a.n (ap is_accepted (sym c.why_view-w.ensures) ∙ (sym c.is_accepted.ensures
-    ∙ not-false _ c.if-not-is_accepted.false)) in
+    ∙ c.if-not-is_accepted.false)) in
     let i = seen-inside a.s a.views.now a.bytes.now a.starts.now a.lens.now a.nulls.now a.places.now a.block
     a.offset a.n g in
     omega (arith, i)
@@ -66,7 +66,7 @@ put_view-requires c =
     let a = c.args in
     let g = seen a.s a.views.now a.bytes.now a.starts.now a.lens.now a.nulls.now a.places.now a.block a.offset
     a.n (ap is_accepted (sym c.why_view-w.ensures)
-    ∙ (sym c.is_accepted.ensures ∙ not-false _ c.if-not-is_accepted.false)) in
+    ∙ (sym c.is_accepted.ensures ∙ c.if-not-is_accepted.false)) in
     let i = seen-inside a.s a.views.now a.bytes.now a.starts.now a.lens.now a.nulls.now a.places.now a.block
     a.offset a.n g in
     let r = room-gives a.s a.views.now a.bytes.now a.starts.now a.lens.now a.nulls.now a.places.now g.room in
@@ -77,7 +77,7 @@ put_bit-requires c =
     let a = c.args in
     let g = seen a.s a.views.now a.bytes.now a.starts.now a.lens.now a.nulls.now a.places.now a.block a.offset
     a.n (ap is_accepted (sym c.why_view-w.ensures) ∙ (sym c.is_accepted.ensures
-    ∙ not-false _ c.if-not-is_accepted.false)) in
+    ∙ c.if-not-is_accepted.false)) in
     let r = room-gives a.s a.views.now a.bytes.now a.starts.now a.lens.now a.nulls.now a.places.now g.room in
     r.bits
 
@@ -85,11 +85,11 @@ pub row_more-t-requires : goal.row_more-t-requires
 row_more-t-requires c =
     let a = c.args in
     let g = seen a.s a.views.now a.bytes.now a.starts.now a.lens.now a.nulls.now a.places.now a.block a.offset
-    a.n (ap is_accepted (sym c.why_view-w.ensures) ∙ (sym c.is_accepted.ensures ∙ not-false _ c.if-not-is_accepted.false)) in
+    a.n (ap is_accepted (sym c.why_view-w.ensures) ∙ (sym c.is_accepted.ensures ∙ c.if-not-is_accepted.false)) in
     let r = room-gives a.s a.views.now a.bytes.now a.starts.now a.lens.now a.nulls.now a.places.now g.room in
     r.rows
 
 pub returns : goal.returns
 returns c =
-    does-view _ _ _ _ _ _ _ _ _ _ _ c.why_view-w.ensures (sym c.is_accepted.ensures ∙ not-false _ c.if-not-is_accepted.false) c.row_more-t.ensures
+    does-view _ _ _ _ _ _ _ _ _ _ _ c.why_view-w.ensures (sym c.is_accepted.ensures ∙ c.if-not-is_accepted.false) c.row_more-t.ensures
     c.put_view.ensures c.put_bit.ensures

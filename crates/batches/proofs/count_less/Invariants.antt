@@ -10,8 +10,8 @@ use Rattle.batches.proofs.Laws.{less_none, less-more, no_rows}
 use Rattle.batches.proofs.count_less.Given as goal
 
 abbrev pub invariant-loop-k : goal.invariant-loop-k
-invariant-loop-k l = (l.k ≤ l.rows - 1) × (l.initial.k ≤ l.k)
-    × (l.initial.k ≡ less_rows (lent l.views l.bytes l.starts l.lens l.nulls) l.c l.k) × (l.n ≡ reachable_at (lent l.views l.bytes l.starts l.lens l.nulls) l.c l.k)
+invariant-loop-k l = (l.k ≤ l.rows - 1) × (l.n ≤ l.k)
+    × (l.n ≡ less_rows (lent l.views l.bytes l.starts l.lens l.nulls) l.c l.k) × (l.good ≡ reachable_at (lent l.views l.bytes l.starts l.lens l.nulls) l.c l.k)
 
 abbrev pub decreases-loop-k : goal.decreases-loop-k
 decreases-loop-k l = l.rows - l.k

@@ -10,12 +10,12 @@ use Rattle.batches.proofs.is_below.Goals as goal
 pub returns-then-not-good : goal.returns-then-not-good
 returns-then-not-good c =
     let p = c.requires in
-    left-unreached _ _ _ _ p.0 (omega (arith, p.1)) p.1 (sym p.2 ∙ not-true _ c.if-not-good.true)
+    left-unreached _ _ _ _ p.0 (omega (arith, p.1)) p.1 (sym p.2 ∙ c.if-not-good.true)
 
 pub returns-then-not-next : goal.returns-then-not-next
 returns-then-not-next c =
     let p = c.requires in
-    right-unreached _ _ _ _ p.0 (omega (arith, p.1)) p.1 (sym p.3 ∙ not-true _ c.if-not-next.true)
+    right-unreached _ _ _ _ p.0 (omega (arith, p.1)) p.1 (sym p.3 ∙ c.if-not-next.true)
 
 pub overflow_add-c : goal.overflow_add-c
 overflow_add-c c =
@@ -25,14 +25,14 @@ overflow_add-c c =
 pub order_of-requires : goal.order_of-requires
 order_of-requires c =
     let p = c.requires in (
-      readable _ _ _ _ _ _ _ p.0 (omega (arith, p.1)) (sym p.2 ∙ not-false _ c.if-not-good.false),
-      next-readable _ _ _ _ _ _ _ p.0 p.1 (sym p.3 ∙ not-false _ c.if-not-next.false),
+      readable _ _ _ _ _ _ _ p.0 (omega (arith, p.1)) (sym p.2 ∙ c.if-not-good.false),
+      next-readable _ _ _ _ _ _ _ p.0 p.1 (sym p.3 ∙ c.if-not-next.false),
     )
 
 pub returns : goal.returns
 returns c =
     let p = c.requires in
     c.is_less.ensures
-    ∙ both-less _ _ _ _ p.0 (omega (arith, p.1)) p.1 (sym p.2 ∙ not-false _ c.if-not-good.false)
-    (sym p.3 ∙ not-false _ c.if-not-next.false) c.order_of.result
+    ∙ both-less _ _ _ _ p.0 (omega (arith, p.1)) p.1 (sym p.2 ∙ c.if-not-good.false)
+    (sym p.3 ∙ c.if-not-next.false) c.order_of.result
     (next-order _ _ _ _ _ c.args.c _ c.order_of.result c.order_of.ensures)

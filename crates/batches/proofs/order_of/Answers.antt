@@ -8,11 +8,11 @@ use Rattle.batches.proofs.order_of.Goals as goal
 pub returns-in-Is : goal.returns-in-Is
 returns-in-Is c =
     let t = c.by_views-told in
-    told_is t.result _ _ (by_parts _ _ _ _ _ t.result (t.ensures _ _) (view-part _ _) (view-part _ _)) _ c.told-1.given.1
+    told_is t.result _ _ (by_parts _ _ _ _ _ t.result (t.ensures _ _) (view-part _ _) (view-part _ _)) _ c.in-Is.is
 
 pub returns-in-Whole : goal.returns-in-Whole
 returns-in-Whole c =
     let t = c.by_views-told in
     c.cmp.ensures ∙ ap₂ cmp c.value_part-x.ensures.0 c.value_part-y.ensures.0
     ∙ told-whole t.result _ _ (by_parts _ _ _ _ _ t.result (t.ensures _ _) (view-part _ _) (view-part _ _))
-    c.enum_told-1.given.1
+    c.in-Whole.is

@@ -8,7 +8,7 @@ use Rattle.batches.proofs.Laws.{taste-first, taste-more, spot-value}
 use Rattle.batches.proofs.taste_all.Given as goal
 
 abbrev pub invariant-loop-k : goal.invariant-loop-k
-invariant-loop-k l = (l.k ≤ l.rows) × (l.initial.k ≡ taste_rows (lent l.views l.bytes l.starts l.lens l.nulls) l.c l.k)
+invariant-loop-k l = (l.k ≤ l.rows) × (l.sum ≡ taste_rows (lent l.views l.bytes l.starts l.lens l.nulls) l.c l.k)
 
 abbrev pub decreases-loop-k : goal.decreases-loop-k
 decreases-loop-k l = l.rows - l.k

@@ -8,29 +8,29 @@ use Rattle.batches.proofs.Laws.{taste-added, taste-nothing}
 use Rattle.batches.proofs.taste_more.Goals as goal
 
 pub overflow_add-e : goal.overflow_add-e
-overflow_add-e c = let h = lies-view _ _ _ _ _ c.s-1.given.1 c.requires in omega arith
+overflow_add-e c = let h = lies-view _ _ _ _ _ c.in-View.is c.requires in omega arith
 
 pub slice_bounds-taste-end : goal.slice_bounds-taste-end
-slice_bounds-taste-end c = let h = lies-view _ _ _ _ _ c.s-1.given.1 c.requires in omega arith
+slice_bounds-taste-end c = let h = lies-view _ _ _ _ _ c.in-View.is c.requires in omega arith
 
 pub returns-in-View : goal.returns-in-View
 returns-in-View c =
     taste-added _ _ _ _ _ c.wrapping_add_u64.ensures c.taste.ensures
-    (view-bytes _ _ _ _ _ c.s-1.given.1)
+    (view-bytes _ _ _ _ _ c.in-View.is)
 
 pub overflow_add-e-in-Data : goal.overflow_add-e-in-Data
-overflow_add-e-in-Data c = let h = lies-data _ _ _ _ _ c.s-in-Data-1.given.1 c.requires in omega (arith, byte-limit-small)
+overflow_add-e-in-Data c = let h = lies-data _ _ _ _ _ c.in-Data.is c.requires in omega (arith, byte-limit-small)
 
 pub slice_bounds-taste-end-in-Data : goal.slice_bounds-taste-end-in-Data
-slice_bounds-taste-end-in-Data c = let h = lies-data _ _ _ _ _ c.s-in-Data-1.given.1 c.requires in omega arith
+slice_bounds-taste-end-in-Data c = let h = lies-data _ _ _ _ _ c.in-Data.is c.requires in omega arith
 
 pub returns-in-Data : goal.returns-in-Data
 returns-in-Data c =
     taste-added _ _ _ _ _ c.wrapping_add_u64-in-Data.ensures c.taste-in-Data.ensures
-    (data-bytes _ _ _ _ _ c.s-in-Data-1.given.1)
+    (data-bytes _ _ _ _ _ c.in-Data.is)
 
 pub returns-in-NoBlock : goal.returns-in-NoBlock
-returns-in-NoBlock c = taste-nothing _ _ (omega arith) (no_bytes _ _ _ 0 0 (ap (λ (s : Spot). is_inside (reach_by s)) c.enum_told-1.given.1))
+returns-in-NoBlock c = taste-nothing _ _ (omega arith) (no_bytes _ _ _ 0 0 (ap (λ (s : Spot). is_inside (reach_by s)) c.in-NoBlock.is))
 
 pub returns-in-Outside : goal.returns-in-Outside
-returns-in-Outside c = taste-nothing _ _ (omega arith) (no_bytes _ _ _ 0 0 (ap (λ (s : Spot). is_inside (reach_by s)) c.enum_told-in-Outside-1.given.1))
+returns-in-Outside c = taste-nothing _ _ (omega arith) (no_bytes _ _ _ 0 0 (ap (λ (s : Spot). is_inside (reach_by s)) c.in-Outside.is))

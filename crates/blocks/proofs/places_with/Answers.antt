@@ -11,7 +11,7 @@ use Rattle.blocks.proofs.places_with.Goals as goal
 pub returns-then-not-fits_with : goal.returns-then-not-fits_with
 returns-then-not-fits_with c = record {
   room = λ h. absurd (omega arith);
-  all = λ bytes table e fit. never-by (sym (not-true _ c.if-not-fits_with.true) ∙ c.fits_with.ensures.1 bytes table e ∙ fit);
+  all = λ bytes table e fit. never-by (sym (c.if-not-fits_with.true) ∙ c.fits_with.ensures.1 bytes table e ∙ fit);
 }
 
 pub returns-then-blocks-gt-BLOCK_LIMIT : goal.returns-then-blocks-gt-BLOCK_LIMIT
@@ -21,10 +21,10 @@ returns-then-blocks-gt-BLOCK_LIMIT c = record {
 }
 
 pub overflow_add-result : goal.overflow_add-result
-overflow_add-result c = let g = c.fits_with.ensures.0 (not-false _ c.if-not-fits_with.false) in omega arith
+overflow_add-result c = let g = c.fits_with.ensures.0 (c.if-not-fits_with.false) in omega arith
 
 pub returns : goal.returns
 returns c = record {
-  room = λ h. c.fits_with.ensures.0 (not-false _ c.if-not-fits_with.false);
+  room = λ h. c.fits_with.ensures.0 (c.if-not-fits_with.false);
   all = λ bytes table e fit. refl;
 }

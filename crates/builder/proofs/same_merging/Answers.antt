@@ -3,4 +3,4 @@ use borrow.Author.Rules.{rules}
 use Rattle.builder.proofs.same_merging.Goals as goal
 
 pub returns-in-UpTo : goal.returns-in-UpTo
-returns-in-UpTo c = sym c.m-1.given.1
+returns-in-UpTo c = sym c.in-UpTo.is

@@ -24,4 +24,4 @@ pub returns-then-bytes-base-2 : goal.returns-then-bytes-base-2
 returns-then-bytes-base-2 c = fits-over-bytes _ _ _ _ (omega arith)
 
 pub returns : goal.returns
-returns c = c.fits2.ensures ∙ fits_last _ _ _ _ (omega arith) (omega arith) (omega arith)
+returns c = c.fits.ensures ∙ fits_last _ _ _ _ (omega arith) (omega arith) (omega arith)

@@ -10,15 +10,15 @@ use Rattle.builder_exports.proofs.tambuyeel_get_value.Goals as goal
 
 pub returns-in-Refused : goal.returns-in-Refused
 returns-in-Refused c = rw c.state_of-s.ensures at (got-not _ _ _ _ _ _ _ _ _
-    c.why_get-why.ensures _ c.why-1.given.1 _ c.number.ensures)
+    c.why_get-why.ensures _ c.in-Refused.is _ c.number.ensures)
 
 pub spot_row-requires : goal.spot_row-requires
 spot_row-requires c = let a = c.args in
     let g = got c.state_of-s.result a.views.now a.bytes.now a.starts.now a.lens.now a.nulls.now
-    a.places.now a.row (ap is_accepted (sym c.why_get-why.ensures ∙ c.enum_told-1.given.1)) in
+    a.places.now a.row (ap is_accepted (sym c.why_get-why.ensures ∙ c.in-Accepted.is)) in
     (ready _ _ _ _ _ _ _ (fits_gives _ _ _ _ _ _ _ g.fit), g.row)
 
 pub returns-in-Accepted : goal.returns-in-Accepted
 returns-in-Accepted c = rw c.state_of-s.ensures at (got-there _ _ _ _ _ _ _ _ _
-    c.why_get-why.ensures c.enum_told-1.given.1 _
+    c.why_get-why.ensures c.in-Accepted.is _
     (c.place_of.ensures ∙ ap place_of c.spot_row.ensures))

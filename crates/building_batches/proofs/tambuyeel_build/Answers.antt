@@ -37,7 +37,7 @@ loop-k-init c =
       omega arith,
       ends-fit,
       sym fit ∙ (sym c.state_fits.ensures ∙ not-false _
-          c.if-not-state_fits.false),
+          c.if-not-state_fits.false-raw),
       c.rows_room-room.ensures,
     )
 

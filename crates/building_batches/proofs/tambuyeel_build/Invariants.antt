@@ -13,9 +13,9 @@ use lib.ListN.{length}
 use Rattle.building_batches.proofs.tambuyeel_build.Given as goal
 
 abbrev pub invariant-loop-k : goal.invariant-loop-k
-invariant-loop-k l =     (length l.ends ≡ length l.initial.views) × (length l.merge ≡ length l.views) × (length l.initial.s ≡ length l.initial.bytes) × (length l.s ≡ length l.bytes)
-    × (length l.room ≡ length l.initial.starts) × (length l.initial.a ≡ length l.starts) × (l.initial.k ≤ length l.initial.lens) × (l.k ≤ length l.lens) × (length l.lens < 2 ^ 64)
-    × (fits_state (held l.a l.ends l.merge l.initial.s l.s l.room l.initial.a) ≡ true) × (l.initial.places ≡ room_of_rows l.a.merging (length l.ends) (length l.room) (length l.initial.a))
+invariant-loop-k l =     (length l.views ≡ length l.initial.views) × (length l.bytes ≡ length l.initial.bytes) × (length l.starts ≡ length l.initial.starts) × (length l.lens ≡ length l.initial.lens)
+    × (length l.nulls ≡ length l.initial.nulls) × (length l.places ≡ length l.initial.places) × (l.a ≤ length l.all) × (l.k ≤ length l.ends) × (length l.ends < 2 ^ 64)
+    × (fits_state (held l.s l.views l.bytes l.starts l.lens l.nulls l.places) ≡ true) × (l.room ≡ room_of_rows l.s.merging (length l.views) (length l.nulls) (length l.places))
 
 abbrev pub decreases-loop-k : goal.decreases-loop-k
-decreases-loop-k l =     length l.lens - l.k
+decreases-loop-k l =     length l.ends - l.k

@@ -42,7 +42,7 @@ returns-then-not-is_group c = sym
     c.loop-at.at (omega arith)
     c.loop-at.left _ c.if-left-eq0.false
     c.if-s-at-ne45.false (c.leading-d.ensures.0 ∙ ap leading c.back.ensures)
-    (sym c.is_group.ensures ∙ not-true _ c.if-not-is_group.true))
+    (sym c.is_group.ensures ∙ c.if-not-is_group.true))
     ∙ c.loop-at.invariant.1.1
 
 pub overflow_sub-left : goal.overflow_sub-left
@@ -84,7 +84,7 @@ loop-at-preserved c = (
         c.loop-at.at (omega arith)
         c.loop-at.left _ c.if-left-eq0.false
         c.if-s-at-ne45.false (c.leading-d.ensures.0 ∙ ap leading c.back.ensures)
-        (sym c.is_group.ensures ∙ not-false _ c.if-not-is_group.false))
+        (sym c.is_group.ensures ∙ c.if-not-is_group.false))
         ∙ c.loop-at.invariant.1.1,
   ),
 )

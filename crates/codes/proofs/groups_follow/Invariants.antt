@@ -9,7 +9,7 @@ use native.Mathlib.Omega.{arith}
 use Rattle.codes.proofs.groups_follow.Given as goal
 
 abbrev pub invariant-loop-at : goal.invariant-loop-at
-invariant-loop-at l = (l.at ≤ length l.s) × ((l.initial.at ≤ 2) × (groups_follow l.initial.at (drop l.at l.s) ≡ groups_follow 2 l.s))
+invariant-loop-at l = (l.at ≤ length l.s) × ((l.left ≤ 2) × (groups_follow l.left (drop l.at l.s) ≡ groups_follow 2 l.s))
 
 abbrev pub decreases-loop-at : goal.decreases-loop-at
 decreases-loop-at l = length l.s - l.at

@@ -12,10 +12,10 @@ pub begins_with_day-requires : goal.begins_with_day-requires
 begins_with_day-requires c = c.requires
 
 pub returns-then-not-begins_with_day : goal.returns-then-not-begins_with_day
-returns-then-not-begins_with_day c = day-month-no _ _ c.requires.0 (sym c.begins_with_day.ensures ∙ not-true _ c.if-not-begins_with_day.true)
+returns-then-not-begins_with_day c = day-month-no _ _ c.requires.0 (sym c.begins_with_day.ensures ∙ c.if-not-begins_with_day.true)
 
 pub returns : goal.returns
 returns c = day-month-yes _ _ c.requires.0 _
-    (sym c.begins_with_day.ensures ∙ not-false _ c.if-not-begins_with_day.false)
+    (sym c.begins_with_day.ensures ∙ c.if-not-begins_with_day.false)
     (c.is_month_year.ensures ∙
     (ap is_month_year c.past_hyphen.ensures ∙ ap (λ (x : List ℕ). is_month_year (past_hyphen x)) c.back.ensures))

@@ -9,7 +9,7 @@ pub is_group-requires : goal.is_group-requires
 is_group-requires c = tt
 
 pub returns-then-not-is_group : goal.returns-then-not-is_group
-returns-then-not-is_group c = groups-no _ _ c.requires.0 (sym c.is_group.ensures ∙ not-true _ c.if-not-is_group.true)
+returns-then-not-is_group c = groups-no _ _ c.requires.0 (sym c.is_group.ensures ∙ c.if-not-is_group.true)
 
 pub returns-then-s-d : goal.returns-then-s-d
 returns-then-s-d c = groups-one _ _ c.requires.0 c.if-s-d.true
@@ -22,5 +22,5 @@ groups_follow-requires c = tt
 
 pub returns : goal.returns
 returns c = groups-more _ _ c.requires.0 _
-    (sym c.is_group.ensures ∙ not-false _ c.if-not-is_group.false) c.if-s-d.false
+    (sym c.is_group.ensures ∙ c.if-not-is_group.false) c.if-s-d.false
     (c.groups_follow.ensures ∙ ap (groups_follow 2) c.back.ensures)

@@ -12,10 +12,10 @@ pub returns-then-s-lt3 : goal.returns-then-s-lt3
 returns-then-s-lt3 c = month-day-short _ c.if-s-lt3.true
 
 pub returns-then-not-is_month : goal.returns-then-not-is_month
-returns-then-not-is_month c = month-day-no _ (sym (c.is_month.ensures ∙ ap is_month c.front.ensures) ∙ not-true _ c.if-not-is_month.true)
+returns-then-not-is_month c = month-day-no _ (sym (c.is_month.ensures ∙ ap is_month c.front.ensures) ∙ c.if-not-is_month.true)
 
 pub returns : goal.returns
 returns c = month-day-yes _ _
     (sym (c.is_month.ensures ∙ ap is_month c.front.ensures)
-    ∙ not-false _ c.if-not-is_month.false)
+    ∙ c.if-not-is_month.false)
     (c.is_day.ensures ∙ (ap is_day c.past_hyphen.ensures ∙ ap (λ (x : List ℕ). is_day (past_hyphen x)) c.back.ensures))

@@ -10,9 +10,9 @@ pub returns-then-s-lt3 : goal.returns-then-s-lt3
 returns-then-s-lt3 c = month-year-short _ c.if-s-lt3.true
 
 pub returns-then-not-is_month : goal.returns-then-not-is_month
-returns-then-not-is_month c = month-year-no _ (sym (c.is_month.ensures ∙ ap is_month c.front.ensures) ∙ not-true _ c.if-not-is_month.true)
+returns-then-not-is_month c = month-year-no _ (sym (c.is_month.ensures ∙ ap is_month c.front.ensures) ∙ c.if-not-is_month.true)
 
 pub returns : goal.returns
 returns c = month-year-yes _ _
     (sym (c.is_month.ensures ∙ ap is_month c.front.ensures) ∙ not-false _
-    c.if-not-is_month.false) (c.is_year.ensures ∙ ap is_year c.back.ensures)
+    c.if-not-is_month.false-raw) (c.is_year.ensures ∙ ap is_year c.back.ensures)

@@ -18,7 +18,7 @@ bounds-s-i c = omega arith
 
 pub returns-then-not-may_stand : goal.returns-then-not-may_stand
 returns-then-not-may_stand c = parted-no c.args.s.now c.loop-i.i
-    c.loop-i.after (omega arith) (sym c.may_stand.ensures ∙ not-true _ c.if-not-may_stand.true)
+    c.loop-i.after (omega arith) (sym c.may_stand.ensures ∙ c.if-not-may_stand.true)
     c.loop-i.invariant.1
 
 pub overflow_add-i : goal.overflow_add-i
@@ -31,7 +31,7 @@ pub loop-i-preserved : goal.loop-i-preserved
 loop-i-preserved c = (
   omega arith,
   parted-on c.args.s.now c.loop-i.i
-      c.loop-i.after (omega arith) (sym c.may_stand.ensures ∙ not-false _ c.if-not-may_stand.false)
+      c.loop-i.after (omega arith) (sym c.may_stand.ensures ∙ c.if-not-may_stand.false)
       c.loop-i.invariant.1,
 )
 

@@ -11,7 +11,7 @@ use borrow.Author.Rules.{rules}
 use Rattle.codes.proofs.is_parted.Given as goal
 
 abbrev pub invariant-loop-i : goal.invariant-loop-i
-invariant-loop-i l = (l.i ≤ length l.s) × (parted l.initial.i (drop l.i l.s) ≡ parted true l.s)
+invariant-loop-i l = (l.i ≤ length l.s) × (parted l.after (drop l.i l.s) ≡ parted true l.s)
 
 abbrev pub decreases-loop-i : goal.decreases-loop-i
 decreases-loop-i l = length l.s - l.i

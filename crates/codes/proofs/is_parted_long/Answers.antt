@@ -14,35 +14,35 @@ pub returns-then-not-may_stand : goal.returns-then-not-may_stand
 returns-then-not-may_stand c = long-no c.args.s.now c.requires.0
     (λ p. true≢false
     (sym (last-stands c.args.s.now
-    c.requires.0 p) ∙ (sym c.may_stand.ensures ∙ not-true _ c.if-not-may_stand.true)))
+    c.requires.0 p) ∙ (sym c.may_stand.ensures ∙ c.if-not-may_stand.true)))
 
 pub returns-then-not-window : goal.returns-then-not-window
 returns-then-not-window c = long-no c.args.s.now
     c.requires.0
     (λ p. true≢false
     (sym (window-of c.args.s.now p 0 (omega arith)) ∙
-    (sym c.window.ensures ∙ not-true _ c.if-not-window.true)))
+    (sym c.window.ensures ∙ c.if-not-window.true)))
 
 pub returns-then-n-le17 : goal.returns-then-n-le17
 returns-then-n-le17 c = two-windows c.args.s.now
     c.requires.0
     c.if-s-eq45.false
-    (sym c.may_stand.ensures ∙ not-false _ c.if-not-may_stand.false)
-    (sym c.window.ensures ∙ not-false _ c.if-not-window.false) _ c.if-n-le17.true c.window-then-n-le17.ensures
+    (sym c.may_stand.ensures ∙ c.if-not-may_stand.false)
+    (sym c.window.ensures ∙ c.if-not-window.false) _ c.if-n-le17.true c.window-then-n-le17.ensures
 
 pub returns-then-not-window-2 : goal.returns-then-not-window-2
 returns-then-not-window-2 c = long-no c.args.s.now
     c.requires.0
     (λ p. true≢false
     (sym (window-of c.args.s.now p 8 (omega arith)) ∙
-    (sym c.window-2.ensures ∙ not-true _ c.if-not-window-2.true)))
+    (sym c.window-2.ensures ∙ c.if-not-window-2.true)))
 
 pub returns : goal.returns
 returns c = three-windows c.args.s.now
     c.requires.0
     c.if-s-eq45.false
     (sym c.may_stand.ensures ∙ not-false _
-    c.if-not-may_stand.false)
-    (sym c.window.ensures ∙ not-false _ c.if-not-window.false) _
+    c.if-not-may_stand.false-raw)
+    (sym c.window.ensures ∙ c.if-not-window.false) _
     c.requires.1
-    (sym c.window-2.ensures ∙ not-false _ c.if-not-window-2.false) c.window-3.ensures
+    (sym c.window-2.ensures ∙ c.if-not-window-2.false) c.window-3.ensures

@@ -28,7 +28,7 @@ loop-i-preserved c = (
   omega (
     arith,
     leading-more c.args.s.now c.loop-i.i
-        (omega arith) (sym c.is_digit.ensures ∙ not-false _ c.if-not-is_digit.false),
+        (omega arith) (sym c.is_digit.ensures ∙ c.if-not-is_digit.false),
   ),
 )
 
@@ -40,7 +40,7 @@ returns-then-not-is_digit c = (
   omega (
     arith,
     leading-stop c.args.s.now c.loop-i.i
-        (omega arith) (sym c.is_digit.ensures ∙ not-true _ c.if-not-is_digit.true),
+        (omega arith) (sym c.is_digit.ensures ∙ c.if-not-is_digit.true),
   ),
   omega arith,
 )

@@ -8,15 +8,15 @@ pub conforms-requires : goal.conforms-requires
 conforms-requires c = tt
 
 pub returns-then-not-conforms : goal.returns-then-not-conforms
-returns-then-not-conforms c = mark-other _ (sym c.conforms.ensures ∙ not-true _ c.if-not-conforms.true)
+returns-then-not-conforms c = mark-other _ (sym c.conforms.ensures ∙ c.if-not-conforms.true)
 
 pub is_date-requires : goal.is_date-requires
 is_date-requires c = tt
 
 pub returns-then-is_date : goal.returns-then-is_date
-returns-then-is_date c = mark-date _ (sym c.conforms.ensures ∙ not-false _ c.if-not-conforms.false)
+returns-then-is_date c = mark-date _ (sym c.conforms.ensures ∙ c.if-not-conforms.false)
     (sym c.is_date.ensures ∙ c.if-is_date.true)
 
 pub returns : goal.returns
-returns c = mark_code _ (sym c.conforms.ensures ∙ not-false _ c.if-not-conforms.false)
+returns c = mark_code _ (sym c.conforms.ensures ∙ c.if-not-conforms.false)
     (sym c.is_date.ensures ∙ c.if-is_date.false)

@@ -15,13 +15,13 @@ pub loop-k-init : goal.loop-k-init
 loop-k-init c = (omega arith, all_none _ _ _ _ _)
 
 pub returns-then-not-in_data : goal.returns-then-not-in_data
-returns-then-not-in_data c = all-not _ _ _ _ _ _ _ (omega arith) (omega arith) (omega arith) (sym c.in_data.ensures ∙ not-true _ c.if-not-in_data.true)
+returns-then-not-in_data c = all-not _ _ _ _ _ _ _ (omega arith) (omega arith) (omega arith) (sym c.in_data.ensures ∙ c.if-not-in_data.true)
 
 pub loop-k-preserved : goal.loop-k-preserved
 loop-k-preserved c = (
   omega arith,
   all_more _ _ _ _ _ _ (omega arith) (omega arith) c.loop-k.invariant.1
-      (sym c.in_data.ensures ∙ not-false _ c.if-not-in_data.false),
+      (sym c.in_data.ensures ∙ c.if-not-in_data.false),
 )
 
 pub returns : goal.returns

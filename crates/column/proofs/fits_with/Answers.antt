@@ -21,7 +21,7 @@ pub map_holds-requires : goal.map_holds-requires
 map_holds-requires c = omega (arith, row-limit-is)
 
 pub returns-then-not-map_holds : goal.returns-then-not-map_holds
-returns-then-not-map_holds c = (λ h. absurd (true≢false (sym h)), λ bytes table e. over-map _ _ _ _ _ (sym c.map_holds.ensures ∙ not-true _ c.if-not-map_holds.true))
+returns-then-not-map_holds c = (λ h. absurd (true≢false (sym h)), λ bytes table e. over-map _ _ _ _ _ (sym c.map_holds.ensures ∙ c.if-not-map_holds.true))
 
 pub returns-then-blocks-gt-BLOCK_LIMIT : goal.returns-then-blocks-gt-BLOCK_LIMIT
 returns-then-blocks-gt-BLOCK_LIMIT c = (λ h. absurd (true≢false (sym h)), λ bytes table e. over-blocks _ _ _ _ _ (omega (arith, block-limit-is)))
@@ -30,5 +30,5 @@ pub returns : goal.returns
 returns c = (
   λ h. omega arith,
   λ bytes table e. fits-is _ _ _ _ _ _ e (omega (arith, row-limit-is)) (omega arith) (sym c.map_holds.ensures
-      ∙ not-false _ c.if-not-map_holds.false) (omega (arith, block-limit-is)),
+      ∙ c.if-not-map_holds.false) (omega (arith, block-limit-is)),
 )

@@ -3,4 +3,4 @@ use borrow.Author.Rules.{rules}
 use Rattle.column.proofs.of_kind.Goals as goal
 
 pub returns-in-Text : goal.returns-in-Text
-returns-in-Text c = rw c.enum_told-in-Text-1.given.1 c.is_utf8.ensures
+returns-in-Text c = rw c.in-Text.is c.is_utf8.ensures

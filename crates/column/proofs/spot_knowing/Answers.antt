@@ -23,20 +23,20 @@ returns-then-not-lies c =
     let p = c.requires in
     long-past _ _ _ _ _ _ _ c.view_len-len.ensures.0 c.if-len-gt-SHORT_MOST.true _ c.view_block-k.ensures.0
     c.if-blocks-k.false p.0.starts p.0.lens _ c.view_offset-offset.ensures.0
-    (sym (c.lies.ensures (λ e. all-each _ _ _ _ _ _ _ p.0.starts p.0.lens (p.1 e) c.if-blocks-k.false)) ∙ not-true _ c.if-not-lies.true)
+    (sym (c.lies.ensures (λ e. all-each _ _ _ _ _ _ _ p.0.starts p.0.lens (p.1 e) c.if-blocks-k.false)) ∙ c.if-not-lies.true)
 
 pub overflow_add-result : goal.overflow_add-result
 overflow_add-result c =
     let p = c.requires in
     let g = in-data-gives _ _ _ (sym (c.lies.ensures (λ e. all-each _ _ _ _ _ _ _ p.0.starts p.0.lens (p.1 e) c.if-blocks-k.false))
-    ∙ not-false _ c.if-not-lies.false) in
+    ∙ c.if-not-lies.false) in
     omega (arith, g.0, c.if-size-end.false, byte-limit-is)
 
 pub returns-then-len-gt-SHORT_MOST : goal.returns-then-len-gt-SHORT_MOST
 returns-then-len-gt-SHORT_MOST c =
     let p = c.requires in
     let g = in-data-gives _ _ _ (sym (c.lies.ensures (λ e. all-each _ _ _ _ _ _ _ p.0.starts p.0.lens (p.1 e) c.if-blocks-k.false))
-    ∙ not-false _ c.if-not-lies.false) in
+    ∙ c.if-not-lies.false) in
     long-data _ _ _ _ _ _ _ c.view_len-len.ensures.0 c.if-len-gt-SHORT_MOST.true _ c.view_block-k.ensures.0
     c.if-blocks-k.false p.0.starts p.0.lens _ c.view_offset-offset.ensures.0 g.0 g.1
     c.if-size-end.false

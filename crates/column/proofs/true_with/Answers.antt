@@ -10,7 +10,7 @@ use Rattle.column.proofs.true_with.Goals as goal
 
 pub returns-then-not-is_reached : goal.returns-then-not-is_reached
 returns-then-not-is_reached c = λ table nulls e. untrue-reach _ _ _ _ [] (sym (spot-reaches _ _ _ _ _ _ _ c.room_of.ensures
-    c.spot_with-s.ensures table nulls e) ∙ sym c.is_reached.ensures ∙ not-true _ c.if-not-is_reached.true)
+    c.spot_with-s.ensures table nulls e) ∙ sym c.is_reached.ensures ∙ c.if-not-is_reached.true)
 
 pub part_of-value-requires : goal.part_of-value-requires
 part_of-value-requires c = spot-lies _ _ _ _ _ _ _ c.room_of.ensures c.spot_with-s.ensures
@@ -21,22 +21,22 @@ honest_at-requires c =
     (
       c.requires,
       ap length c.part_of-value.ensures.0 ∙ spot-length _ _ _ _ _ _ _ c.room_of.ensures
-          c.spot_with-s.ensures (sym c.is_reached.ensures ∙ not-false _ c.if-not-is_reached.false) c.requires,
+          c.spot_with-s.ensures (sym c.is_reached.ensures ∙ c.if-not-is_reached.false) c.requires,
     )
 
 pub returns-then-not-honest_at : goal.returns-then-not-honest_at
 returns-then-not-honest_at c =
     λ table nulls e. untrue-honest _ _ _ _ _ (c.part_of-value.ensures.0
     ∙ spot-shown _ _ _ _ _ _ _ (spot_is _ _ _ _ _ _ _ c.room_of.ensures c.spot_with-s.ensures table nulls e)
-    (sym c.is_reached.ensures ∙ not-false _ c.if-not-is_reached.false))
+    (sym c.is_reached.ensures ∙ c.if-not-is_reached.false))
     (sym (spot-reaches _ _ _ _ _ _ _ c.room_of.ensures c.spot_with-s.ensures table nulls e)
-    ∙ sym c.is_reached.ensures ∙ not-false _ c.if-not-is_reached.false)
-    (sym c.honest_at.ensures ∙ not-true _ c.if-not-honest_at.true)
+    ∙ sym c.is_reached.ensures ∙ c.if-not-is_reached.false)
+    (sym c.honest_at.ensures ∙ c.if-not-honest_at.true)
 
 pub returns : goal.returns
 returns c =
     λ table nulls e. c.of_kind.ensures ∙ true-kind _ _ _ _ _ (c.part_of-value.ensures.0
     ∙ spot-shown _ _ _ _ _ _ _ (spot_is _ _ _ _ _ _ _ c.room_of.ensures c.spot_with-s.ensures table nulls e)
-    (sym c.is_reached.ensures ∙ not-false _ c.if-not-is_reached.false))
+    (sym c.is_reached.ensures ∙ c.if-not-is_reached.false))
     (sym (spot-reaches _ _ _ _ _ _ _ c.room_of.ensures c.spot_with-s.ensures table nulls e) ∙ sym c.is_reached.ensures
-    ∙ not-false _ c.if-not-is_reached.false) (sym c.honest_at.ensures ∙ not-false _ c.if-not-honest_at.false)
+    ∙ c.if-not-is_reached.false) (sym c.honest_at.ensures ∙ c.if-not-honest_at.false)

@@ -9,7 +9,7 @@ returns-then-not-is_accepted c =
     let a = c.args in
     wrote-not a.most a.views.now a.bytes.now a.starts.now a.lens.now a.nulls.now a.c a.newviews.now
     a.newbytes.now a.newstarts.now a.newlens.now a.newnulls.now _ c.judge-j.ensures
-    (sym c.is_accepted.ensures ∙ not-true _ c.if-not-is_accepted.true)
+    (sym c.is_accepted.ensures ∙ c.if-not-is_accepted.true)
 
 pub write-requires : goal.write-requires
 write-requires c =
@@ -17,7 +17,7 @@ write-requires c =
     let g = c.judge-j.ensures in
     let h = accepted a.most a.views.now a.bytes.now a.starts.now a.lens.now a.nulls.now a.c a.newviews.now
     a.newbytes.now a.newstarts.now a.newlens.now a.newnulls.now _ g (sym c.is_accepted.ensures
-    ∙ not-false _ c.if-not-is_accepted.false) in (
+    ∙ c.if-not-is_accepted.false) in (
       source a.most a.views.now a.bytes.now a.starts.now a.lens.now a.nulls.now a.c a.newviews.now
           a.newbytes.now a.newstarts.now a.newlens.now a.newnulls.now h,
       write-in a.most a.views.now a.bytes.now
@@ -30,7 +30,7 @@ put_table-requires c =
     let a = c.args in
     let g = c.judge-j.ensures in
     let h = accepted a.most a.views.now a.bytes.now a.starts.now a.lens.now a.nulls.now a.c a.newviews.now
-    a.newbytes.now a.newstarts.now a.newlens.now a.newnulls.now _ g (sym c.is_accepted.ensures ∙ not-false _ c.if-not-is_accepted.false) in
+    a.newbytes.now a.newstarts.now a.newlens.now a.newnulls.now _ g (sym c.is_accepted.ensures ∙ c.if-not-is_accepted.false) in
     let s = source a.most a.views.now a.bytes.now a.starts.now a.lens.now a.nulls.now a.c a.newviews.now
     a.newbytes.now a.newstarts.now a.newlens.now a.newnulls.now h in (
       (
@@ -41,7 +41,7 @@ put_table-requires c =
       ),
       counted a.most a.views.now
           a.bytes.now a.starts.now a.lens.now a.nulls.now a.c a.newviews.now a.newbytes.now a.newstarts.now
-          a.newlens.now a.newnulls.now _ g (sym c.is_accepted.ensures ∙ not-false _ c.if-not-is_accepted.false),
+          a.newlens.now a.newnulls.now _ g (sym c.is_accepted.ensures ∙ c.if-not-is_accepted.false),
     )
 
 pub put_map-requires : goal.put_map-requires
@@ -51,7 +51,7 @@ put_map-requires c =
     map-in a.most a.views.now a.bytes.now a.starts.now a.lens.now a.nulls.now a.c a.newviews.now
     a.newbytes.now a.newstarts.now a.newlens.now a.newnulls.now (accepted a.most a.views.now a.bytes.now
     a.starts.now a.lens.now a.nulls.now a.c a.newviews.now a.newbytes.now a.newstarts.now a.newlens.now
-    a.newnulls.now _ g (sym c.is_accepted.ensures ∙ not-false _ c.if-not-is_accepted.false))
+    a.newnulls.now _ g (sym c.is_accepted.ensures ∙ c.if-not-is_accepted.false))
 
 pub returns : goal.returns
 returns c =
@@ -59,4 +59,4 @@ returns c =
     let g = c.judge-j.ensures in
     wrote a.most a.views.now a.bytes.now a.starts.now a.lens.now a.nulls.now a.c a.newviews.now
     a.newbytes.now a.newstarts.now a.newlens.now a.newnulls.now _ g (sym c.is_accepted.ensures
-    ∙ not-false _ c.if-not-is_accepted.false) _ _ _ _ _ c.write.ensures c.put_table.ensures c.put_map.ensures
+    ∙ c.if-not-is_accepted.false) _ _ _ _ _ c.write.ensures c.put_table.ensures c.put_map.ensures

@@ -22,11 +22,11 @@ returns-then-not-fits c =
     c.args.newlens.now c.args.newnulls.now) _ (compact-fit c.args.most c.args.views.now c.args.bytes.now
     c.args.starts.now c.args.lens.now c.args.nulls.now c.args.c (lent c.args.newviews.now
     c.args.newbytes.now c.args.newstarts.now c.args.newlens.now c.args.newnulls.now)
-    (omega (arith, most-compaction-is)) (rw c.fits2.ensures at c.if-not-fits.true))
+    (omega (arith, most-compaction-is)) (rw c.fits.ensures at c.if-not-fits.true-raw))
 
 pub measure-m-requires : goal.measure-m-requires
 measure-m-requires c =
-    let g = fits_gives _ _ _ _ _ _ (not-false _ (rw c.fits2.ensures at c.if-not-fits.false)) in
+    let g = fits_gives _ _ _ _ _ _ (not-false _ (rw c.fits.ensures at c.if-not-fits.false-raw)) in
     record { rows = g.rows; views = g.views; starts = g.starts; lens = g.lens }
 
 pub returns-then-good-rows : goal.returns-then-good-rows
@@ -36,7 +36,7 @@ returns-then-good-rows c =
     c.args.newlens.now c.args.newnulls.now) _ (compact-row c.args.most c.args.views.now c.args.bytes.now
     c.args.starts.now c.args.lens.now c.args.nulls.now c.args.c (lent c.args.newviews.now
     c.args.newbytes.now c.args.newstarts.now c.args.newlens.now c.args.newnulls.now)
-    (omega (arith, most-compaction-is)) (rw c.fits2.ensures at c.if-not-fits.false) _
+    (omega (arith, most-compaction-is)) (rw c.fits.ensures at c.if-not-fits.false-raw) _
     c.measure-m.ensures (omega arith))
 
 pub blocks_of-blocks-requires : goal.blocks_of-blocks-requires
@@ -50,5 +50,5 @@ returns c =
     judged c.args.most c.args.views.now c.args.bytes.now c.args.starts.now c.args.lens.now
     c.args.nulls.now c.args.c (lent c.args.newviews.now c.args.newbytes.now c.args.newstarts.now
     c.args.newlens.now c.args.newnulls.now) (omega (arith, most-compaction-is))
-    (rw c.fits2.ensures at c.if-not-fits.false) _
+    (rw c.fits.ensures at c.if-not-fits.false-raw) _
     c.measure-m.ensures (omega arith) _ _ c.blocks_of-blocks.ensures c.why_rooms.ensures

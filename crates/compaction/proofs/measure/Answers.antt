@@ -29,7 +29,7 @@ pub returns-then-not-is_true_at : goal.returns-then-not-is_true_at
 returns-then-not-is_true_at c = record {
   within = omega arith;
   truth = c.loop-k.invariant.1;
-  bad = λ h. sym c.is_true_at.ensures ∙ not-true _ c.if-not-is_true_at.true;
+  bad = λ h. sym c.is_true_at.ensures ∙ c.if-not-is_true_at.true;
   stand = λ e. absurd (omega arith);
   small = record { bytes = omega (arith, row-limit-small); blocks = omega (arith, row-limit-small) };
 }
@@ -53,7 +53,7 @@ loop-k-preserved c =
     let g = next_grows _ _ _ _ c.step-s.ensures in (
       omega arith,
       below_more (λ (r : ℕ). true_at s.c.kind (bare s.views.now s.bytes.now s.starts.now s.lens.now) s.c r ≡ true) _
-          l.invariant.1 (sym c.is_true_at.ensures ∙ not-false _ c.if-not-is_true_at.false),
+          l.invariant.1 (sym c.is_true_at.ensures ∙ c.if-not-is_true_at.false),
       stand-next _ _ _ _ _ _ c.view_len.ensures.0 l.invariant.2 c.step-s.ensures,
       omega (arith, c.view_len.ensures),
       omega arith,

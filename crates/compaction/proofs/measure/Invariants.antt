@@ -18,8 +18,8 @@ use Rattle.compaction.proofs.measure.Given as goal
 abbrev pub invariant-loop-k : goal.invariant-loop-k
 invariant-loop-k l = (l.k ≤ l.rows) × ((r : ℕ) → r < l.k → is_true (bare l.views l.bytes l.starts l.lens) l.kind
     l.blocks (view_at l.views (l.first + r)) ≡ true)
-    × (l.initial.k ≡ stand_of (cut_all l.most (long_of (λ r. length_of (view_at l.views (l.first + r))) (λ r. length_of (view_at l.views (l.first + r))) l.k)))
-    × (l.initial.k.base + l.initial.k.fill ≤ 4294967296 * l.k) × (l.initial.k.closed ≤ l.k)
+    × (l.s ≡ stand_of (cut_all l.most (long_of (λ r. length_of (view_at l.views (l.first + r))) (λ r. length_of (view_at l.views (l.first + r))) l.k)))
+    × (l.s.base + l.s.fill ≤ 4294967296 * l.k) × (l.s.closed ≤ l.k)
 
 abbrev pub decreases-loop-k : goal.decreases-loop-k
 decreases-loop-k l = l.rows - l.k

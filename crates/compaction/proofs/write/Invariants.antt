@@ -15,10 +15,10 @@ use borrow.Author.Rules.{rules}
 use Rattle.compaction.proofs.write.Given as goal
 
 abbrev pub invariant-loop-k : goal.invariant-loop-k
-invariant-loop-k l = (l.k ≤ l.newbytes)
-    × (length l.initial.s ≡ length l.initial.newviews) × (length l.s ≡ length l.newviews)
-    × Laid l.most (λ r. view_at l.views (l.initial.newbytes + r)) (λ r. shown (blocks_of (bare l.views l.bytes l.starts l.lens) l.first) (view_at l.views (l.initial.newbytes + r))) l.initial.newviews
-    l.newviews l.k l.initial.s l.s l.initial.k
+invariant-loop-k l = (l.k ≤ l.rows)
+    × (length l.newviews ≡ length l.initial.newviews) × (length l.newbytes ≡ length l.initial.newbytes)
+    × Laid l.most (λ r. view_at l.views (l.first + r)) (λ r. shown (blocks_of (bare l.views l.bytes l.starts l.lens) l.blocks) (view_at l.views (l.first + r))) l.initial.newviews
+    l.initial.newbytes l.k l.newviews l.newbytes l.s
 
 abbrev pub decreases-loop-k : goal.decreases-loop-k
-decreases-loop-k l = l.newbytes - l.k
+decreases-loop-k l = l.rows - l.k

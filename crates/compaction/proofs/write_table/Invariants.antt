@@ -11,9 +11,9 @@ use borrow.Author.Rules.{rules}
 use Rattle.compaction.proofs.write_table.Given as goal
 
 abbrev pub invariant-loop-k : goal.invariant-loop-k
-invariant-loop-k l = (l.k ≤ l.rows) × (length l.initial.s ≡ length l.initial.newstarts)
-    × (length l.s ≡ length l.newstarts)
-    × CutTabled l.most (λ r. view_at l.views (l.first + r)) l.initial.newstarts l.newstarts l.k l.initial.s l.s l.initial.k
+invariant-loop-k l = (l.k ≤ l.rows) × (length l.newstarts ≡ length l.initial.newstarts)
+    × (length l.newlens ≡ length l.initial.newlens)
+    × CutTabled l.most (λ r. view_at l.views (l.first + r)) l.initial.newstarts l.initial.newlens l.k l.newstarts l.newlens l.s
 
 abbrev pub decreases-loop-k : goal.decreases-loop-k
 decreases-loop-k l = l.rows - l.k

@@ -25,7 +25,7 @@ returns-then-not-fits_with c =
     let a = c.args in
     λ bytes table out e sized j.
     plan-fit a.most a.views.now bytes a.nulls.now table a.c out a.to sized (omega (arith, most-compaction-is)) _
-    (sym (c.fits_with.ensures.1 bytes table e) ∙ not-true _ c.if-not-fits_with.true) c.planned-then-not-fits_with.ensures
+    (sym (c.fits_with.ensures.1 bytes table e) ∙ c.if-not-fits_with.true) c.planned-then-not-fits_with.ensures
 
 pub planned-requires-then-good-rows : goal.planned-requires-then-good-rows
 planned-requires-then-good-rows c = λ a. absurd (true≢false (sym a))
@@ -35,19 +35,19 @@ returns-then-good-rows c =
     let a = c.args in
     λ bytes table out e sized j.
     plan-row a.most a.views.now bytes a.nulls.now table a.c out a.to sized (omega (arith, most-compaction-is))
-    (sym (c.fits_with.ensures.1 bytes table e) ∙ not-false _ c.if-not-fits_with.false) _ j _ (omega arith)
+    (sym (c.fits_with.ensures.1 bytes table e) ∙ c.if-not-fits_with.false) _ j _ (omega arith)
     c.planned-then-good-rows.ensures
 
 pub measure-s-requires : goal.measure-s-requires
 measure-s-requires c =
     let f = c.fits_with.ensures in
-    let t = not-false _ c.if-not-fits_with.false in (f.0 t, fits_low _ _ _ _ _ f.1 t)
+    let t = c.if-not-fits_with.false in (f.0 t, fits_low _ _ _ _ _ f.1 t)
 
 pub planned-requires-2 : goal.planned-requires-2
 planned-requires-2 c =
     λ _.
     let h = fits_low _ _ _ _ _ c.fits_with.ensures.1
-    (not-false _ c.if-not-fits_with.false) in
+    (c.if-not-fits_with.false) in
     omega (arith, row-limit-small)
 
 pub returns : goal.returns
@@ -56,5 +56,5 @@ returns c =
     λ bytes table out e sized j.
     plan-rooms a.most a.views.now bytes a.nulls.now table a.c out a.to sized (omega (arith, most-compaction-is))
     (sym (c.fits_with.ensures.1 bytes table e)
-    ∙ not-false _ c.if-not-fits_with.false) _ j _ _ _ _ (omega arith) c.measure-s.ensures.0
+    ∙ c.if-not-fits_with.false) _ j _ _ _ _ (omega arith) c.measure-s.ensures.0
     c.measure-s.ensures.1 c.blocks_of-blocks.ensures c.why_rooms-why.ensures c.planned-2.ensures

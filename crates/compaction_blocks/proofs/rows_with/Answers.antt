@@ -12,7 +12,7 @@ returns-then-most-gt-MOST_COMPACTION c = λ bytes table e set fit. absurd (omega
 
 pub returns-then-not-fits_with : goal.returns-then-not-fits_with
 returns-then-not-fits_with c =
-    λ bytes table e set fit. absurd (true≢false (sym fit ∙ sym (c.fits_with.ensures.1 bytes table e) ∙ not-true _ c.if-not-fits_with.true))
+    λ bytes table e set fit. absurd (true≢false (sym fit ∙ sym (c.fits_with.ensures.1 bytes table e) ∙ c.if-not-fits_with.true))
 
 pub returns : goal.returns
 returns c = λ bytes table e set fit. refl

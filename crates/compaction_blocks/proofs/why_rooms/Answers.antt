@@ -24,27 +24,27 @@ pub returns-then-not-map_room : goal.returns-then-not-map_room
 returns-then-not-map_room c =
     let a = c.args in
     λ out sized. rooms-map a.to a.mapped a.rows a.blocks a.total out sized
-    _ c.map_room.ensures (not-true _ c.if-not-map_room.true)
+    _ c.map_room.ensures (c.if-not-map_room.true)
 
 pub returns-then-blocks-gt-BLOCK_LIMIT : goal.returns-then-blocks-gt-BLOCK_LIMIT
 returns-then-blocks-gt-BLOCK_LIMIT c =
     let a = c.args in
     λ out sized. rooms-blocks a.to a.mapped a.rows a.blocks a.total out sized
-    (omega (arith, row-limit-is)) (omega arith) _ c.map_room.ensures (not-false _ c.if-not-map_room.false)
+    (omega (arith, row-limit-is)) (omega arith) _ c.map_room.ensures (c.if-not-map_room.false)
     (omega (arith, block-limit-is))
 
 pub returns-then-count-blocks : goal.returns-then-count-blocks
 returns-then-count-blocks c =
     let a = c.args in
     λ out sized. rooms-count a.to a.mapped a.rows a.blocks a.total out sized
-    (omega (arith, row-limit-is)) (omega arith) _ c.map_room.ensures (not-false _ c.if-not-map_room.false)
+    (omega (arith, row-limit-is)) (omega arith) _ c.map_room.ensures (c.if-not-map_room.false)
     (omega arith)
 
 pub returns-then-total-gt-BYTE_LIMIT : goal.returns-then-total-gt-BYTE_LIMIT
 returns-then-total-gt-BYTE_LIMIT c =
     let a = c.args in
     λ out sized. rooms-total a.to a.mapped a.rows a.blocks a.total out sized
-    (omega (arith, row-limit-is)) (omega arith) _ c.map_room.ensures (not-false _ c.if-not-map_room.false)
+    (omega (arith, row-limit-is)) (omega arith) _ c.map_room.ensures (c.if-not-map_room.false)
     (omega (arith, block-limit-is)) (omega arith) (omega (arith, byte-limit-is))
 
 pub returns-then-bytes-total : goal.returns-then-bytes-total
@@ -52,7 +52,7 @@ returns-then-bytes-total c =
     let a = c.args in
     λ out sized. rooms-bytes a.to a.mapped a.rows a.blocks a.total out sized
     (omega (arith, row-limit-is)) (omega arith) _ c.map_room.ensures
-    (not-false _ c.if-not-map_room.false)
+    (c.if-not-map_room.false)
     (omega (arith, block-limit-is)) (omega arith) (omega arith)
 
 pub returns : goal.returns
@@ -60,5 +60,5 @@ returns c =
     let a = c.args in
     λ out sized. rooms-yes a.to a.mapped a.rows a.blocks a.total out sized
     (omega (arith, row-limit-is)) (omega arith) _ c.map_room.ensures
-    (not-false _ c.if-not-map_room.false)
+    (c.if-not-map_room.false)
     (omega (arith, block-limit-is)) (omega arith) (omega (arith, byte-limit-is)) (omega arith)

@@ -9,13 +9,13 @@ pub returns-in-Left : goal.returns-in-Left
 returns-in-Left c = compared-left _ _ _ _ _ _ _ (both_is _ _ _ _ _ _ _ _ _ (c.why_of.ensures
     ∙ located-why _ _ _ _ c.locate-p.ensures)
     (c.why_of-2.ensures ∙ located-why _ _ _ _ c.locate-q.ensures)
-    c.verdict_of-why.ensures) _ c.why-1.given.1
+    c.verdict_of-why.ensures) _ c.in-Left.is
 
 pub returns-in-Right : goal.returns-in-Right
 returns-in-Right c = compared-right _ _ _ _ _ _ _ (both_is _ _ _ _ _ _ _ _ _ (c.why_of.ensures
     ∙ located-why _ _ _ _ c.locate-p.ensures)
     (c.why_of-2.ensures ∙ located-why _ _ _ _ c.locate-q.ensures)
-    c.verdict_of-why.ensures) _ c.why-in-Right-1.given.1
+    c.verdict_of-why.ensures) _ c.in-Right.is
 
 pub part_of-x-requires : goal.part_of-x-requires
 part_of-x-requires c = located-lies _ _ _ _ _ _ _ c.locate-p.ensures
@@ -28,6 +28,6 @@ returns-in-Accepted c =
     compared-by _ _ _ _ _ _ _ _ _ _ _ _ _ _ _ _ _ _ (both_is _ _ _ _ _ _ _ _ _ (c.why_of.ensures ∙ located-why _ _ _ _ c.locate-p.ensures)
     (c.why_of-2.ensures ∙ located-why _ _ _ _ c.locate-q.ensures)
     c.verdict_of-why.ensures)
-    c.enum_told-1.given.1 c.view_of-v.ensures c.view_of-w.ensures
+    c.in-Accepted.is c.view_of-v.ensures c.view_of-w.ensures
     (c.part_of-x.ensures.0 ∙ located-bytes _ _ _ _ _ _ _ c.locate-p.ensures)
     (c.part_of-y.ensures.0 ∙ located-bytes _ _ _ _ _ _ _ c.locate-q.ensures) c.order_with.ensures

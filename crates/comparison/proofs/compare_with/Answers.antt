@@ -11,7 +11,7 @@ returns-in-Left c = λ table table2 sees sees2. compared-left _ _ _ _ _ _ _ (bot
     ∙ located-why _ _ _ _ (c.locate_with-p.ensures.1 table sees))
     (c.why_of-2.ensures
     ∙ located-why _ _ _ _ (c.locate_with-q.ensures.1 table2 sees2))
-    c.verdict_of-why.ensures) _ c.why-1.given.1
+    c.verdict_of-why.ensures) _ c.in-Left.is
 
 pub returns-in-Right : goal.returns-in-Right
 returns-in-Right c = λ table table2 sees sees2. compared-right _ _ _ _ _ _ _ (both_is _ _ _ _ _ _ _ _ _
@@ -19,7 +19,7 @@ returns-in-Right c = λ table table2 sees sees2. compared-right _ _ _ _ _ _ _ (b
     ∙ located-why _ _ _ _ (c.locate_with-p.ensures.1 table sees))
     (c.why_of-2.ensures
     ∙ located-why _ _ _ _ (c.locate_with-q.ensures.1 table2 sees2))
-    c.verdict_of-why.ensures) _ c.why-in-Right-1.given.1
+    c.verdict_of-why.ensures) _ c.in-Right.is
 
 pub part_of-x-requires : goal.part_of-x-requires
 part_of-x-requires c = c.locate_with-p.ensures.0
@@ -33,6 +33,6 @@ returns-in-Accepted c =
     ∙ located-why _ _ _ _ (c.locate_with-p.ensures.1 table sees)) (c.why_of-2.ensures
     ∙ located-why _ _ _ _ (c.locate_with-q.ensures.1 table2 sees2))
     c.verdict_of-why.ensures)
-    c.enum_told-1.given.1 c.view_of-v.ensures c.view_of-w.ensures
+    c.in-Accepted.is c.view_of-v.ensures c.view_of-w.ensures
     (c.part_of-x.ensures.0 ∙ located-bytes _ _ _ _ _ _ _ (c.locate_with-p.ensures.1 table sees))
     (c.part_of-y.ensures.0 ∙ located-bytes _ _ _ _ _ _ _ (c.locate_with-q.ensures.1 table2 sees2)) c.order_with.ensures

@@ -25,7 +25,7 @@ reachable_at-requires c = record { row = omega arith; starts = omega arith; lens
 pub returns-then-not-reachable_at : goal.returns-then-not-reachable_at
 returns-then-not-reachable_at c = let s = c.args in
     lowest-bad (reachable_at (bare s.views.now s.bytes.now s.starts.now s.lens.now) s.c) _ s.c.rows Accepted (omega arith)
-    c.loop-k.invariant.1 (sym c.reachable_at.ensures ∙ not-true _ c.if-not-reachable_at.true)
+    c.loop-k.invariant.1 (sym c.reachable_at.ensures ∙ c.if-not-reachable_at.true)
 
 pub overflow_add-k : goal.overflow_add-k
 overflow_add-k c = omega arith
@@ -37,7 +37,7 @@ pub loop-k-preserved : goal.loop-k-preserved
 loop-k-preserved c = let s = c.args in (
   omega arith,
   below_more (λ (r : ℕ). (reachable_at (bare s.views.now s.bytes.now s.starts.now s.lens.now) s.c) r ≡ true) _
-      c.loop-k.invariant.1 (sym c.reachable_at.ensures ∙ not-false _ c.if-not-reachable_at.false),
+      c.loop-k.invariant.1 (sym c.reachable_at.ensures ∙ c.if-not-reachable_at.false),
 )
 
 pub returns : goal.returns

@@ -13,8 +13,8 @@ pub returns-then-w-ne-VIEW_SIZE : goal.returns-then-w-ne-VIEW_SIZE
 returns-then-w-ne-VIEW_SIZE c = λ bs cs h g ex ey. absurd (omega arith)
 
 pub returns-in-Is : goal.returns-in-Is
-returns-in-Is c = λ bs cs h g ex ey. told_is _ _ _ (c.by_views-told.ensures bs cs) _ c.told-1.given.1
+returns-in-Is c = λ bs cs h g ex ey. told_is _ _ _ (c.by_views-told.ensures bs cs) _ c.in-Is.is
 
 pub returns-in-Whole : goal.returns-in-Whole
 returns-in-Whole c = λ bs cs h g ex ey. c.cmp.ensures ∙ ap₂ cmp ex ey ∙ told-whole _ _ _ (c.by_views-told.ensures bs cs)
-    c.enum_told-1.given.1
+    c.in-Whole.is

@@ -26,7 +26,7 @@ same_row-requires c =
     }
 
 pub returns-then-not-same_row : goal.returns-then-not-same_row
-returns-then-not-same_row c = row-differs _ _ _ _ _ _ (omega arith) (sym c.same_row.ensures ∙ not-true _ c.if-not-same_row.true)
+returns-then-not-same_row c = row-differs _ _ _ _ _ _ (omega arith) (sym c.same_row.ensures ∙ c.if-not-same_row.true)
 
 pub overflow_add-k : goal.overflow_add-k
 overflow_add-k c = omega arith
@@ -35,7 +35,7 @@ pub loop-k-smaller : goal.loop-k-smaller
 loop-k-smaller c = omega arith
 
 pub loop-k-preserved : goal.loop-k-preserved
-loop-k-preserved c = (omega arith, row-alike _ _ _ _ _ c.loop-k.invariant.1 (sym c.same_row.ensures ∙ not-false _ c.if-not-same_row.false))
+loop-k-preserved c = (omega arith, row-alike _ _ _ _ _ c.loop-k.invariant.1 (sym c.same_row.ensures ∙ c.if-not-same_row.false))
 
 pub returns : goal.returns
 returns c =

@@ -6,11 +6,11 @@ use Rattle.comparison.proofs.SameLaws.{all-unfit, all-judged, judged-bare, rows-
 use Rattle.comparison.proofs.why_all.Goals as goal
 
 pub returns-then-not-fits : goal.returns-then-not-fits
-returns-then-not-fits c = all-unfit _ _ (rw c.fits2.ensures at c.if-not-fits.true)
+returns-then-not-fits c = all-unfit _ _ (rw c.fits.ensures at c.if-not-fits.true-raw)
 
 pub judge_rows-requires : goal.judge_rows-requires
-judge_rows-requires c = rows-in-room _ _ _ _ _ _ (sym c.fits2.ensures ∙ not-false _ c.if-not-fits.false)
+judge_rows-requires c = rows-in-room _ _ _ _ _ _ (sym c.fits.ensures ∙ c.if-not-fits.false)
 
 pub returns : goal.returns
-returns c = all-judged _ _ _ (rw c.fits2.ensures at c.if-not-fits.false) (c.judge_rows.ensures
+returns c = all-judged _ _ _ (rw c.fits.ensures at c.if-not-fits.false-raw) (c.judge_rows.ensures
     ∙ judged-bare _ _ _ _ _ c.args.c _ _)

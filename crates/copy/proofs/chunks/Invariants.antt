@@ -8,7 +8,7 @@ use borrow.Author.Rules.{rules}
 use Rattle.copy.proofs.chunks.Given as goal
 
 abbrev pub invariant-loop-o : goal.invariant-loop-o
-invariant-loop-o l = (l.dst ≡ length l.src) × (l.o ≤ l.dst) × (length l.initial.o ≡ length l.initial.dst) × (l.initial.o ≡ copied_up_to l.initial.dst l.src l.o)
+invariant-loop-o l = (l.n ≡ length l.src) × (l.o ≤ l.n) × (length l.dst ≡ length l.initial.dst) × (l.dst ≡ copied_up_to l.initial.dst l.src l.o)
 
 abbrev pub decreases-loop-o : goal.decreases-loop-o
-decreases-loop-o l = l.dst - l.o
+decreases-loop-o l = l.n - l.o

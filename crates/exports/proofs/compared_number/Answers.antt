@@ -6,7 +6,7 @@ use Rattle.exports.specs.Exported.{compared_number}
 use Rattle.exports.proofs.compared_number.Goals as goal
 
 pub returns-in-Left : goal.returns-in-Left
-returns-in-Left c = ap (λ (n : ℕ). 16 + n) c.number.ensures ∙ sym (ap compared_number c.c-in-Left-1.given.1)
+returns-in-Left c = ap (λ (n : ℕ). 16 + n) c.number.ensures ∙ sym (ap compared_number c.in-Left.is)
 
 pub returns-in-Right : goal.returns-in-Right
-returns-in-Right c = ap (λ (n : ℕ). 32 + n) c.number-in-Right.ensures ∙ sym (ap compared_number c.c-in-Right-1.given.1)
+returns-in-Right c = ap (λ (n : ℕ). 32 + n) c.number-in-Right.ensures ∙ sym (ap compared_number c.in-Right.is)

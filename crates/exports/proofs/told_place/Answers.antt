@@ -7,4 +7,4 @@ use Rattle.exports.specs.Exported.{place_told}
 use Rattle.exports.proofs.told_place.Goals as goal
 
 pub returns-in-Refused : goal.returns-in-Refused
-returns-in-Refused c = ap (λ (n : ℕ). place n 0 0 0) c.number.ensures ∙ sym (ap place_told c.l-in-Refused-1.given.1)
+returns-in-Refused c = ap (λ (n : ℕ). place n 0 0 0) c.number.ensures ∙ sym (ap place_told c.in-Refused.is)

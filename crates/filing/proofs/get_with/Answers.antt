@@ -11,20 +11,20 @@ returns-then-not-fits_with c =
     let a = c.args in
     got-none a.s a.views.now a.bytes.now a.nulls.now a.places.now a.count a.r a.b _ _ a.views.ref_ptr
     a.bytes.ref_ptr _ (why-fit a.s a.views.now a.bytes.now a.nulls.now a.places.now a.count a.r a.b
-    (sym c.fits_with.ensures ∙ not-true _ c.if-not-fits_with.true)) refl refl refl
+    (sym c.fits_with.ensures ∙ c.if-not-fits_with.true)) refl refl refl
 
 pub returns-then-rows-r : goal.returns-then-rows-r
 returns-then-rows-r c =
     let a = c.args in
     got-none a.s a.views.now a.bytes.now a.nulls.now a.places.now a.count a.r a.b _ _ a.views.ref_ptr
     a.bytes.ref_ptr _ (why-late a.s a.views.now a.bytes.now a.nulls.now a.places.now a.count a.r a.b
-    (sym c.fits_with.ensures ∙ not-false _ c.if-not-fits_with.false) c.if-rows-r.true) refl refl refl
+    (sym c.fits_with.ensures ∙ c.if-not-fits_with.false) c.if-rows-r.true) refl refl refl
 
 pub spot_row-spot-requires : goal.spot_row-spot-requires
 spot_row-spot-requires c =
     let a = c.args in
     let f = fitted a.s a.views.now a.bytes.now a.nulls.now a.places.now a.count (sym c.fits_with.ensures
-    ∙ not-false _ c.if-not-fits_with.false) in
+    ∙ c.if-not-fits_with.false) in
     (f.views, c.if-rows-r.false, f.blocks)
 
 pub returns-then-not-is_reached : goal.returns-then-not-is_reached
@@ -33,8 +33,8 @@ returns-then-not-is_reached c =
     got-none a.s a.views.now a.bytes.now a.nulls.now a.places.now a.count a.r a.b _ _ a.views.ref_ptr
     a.bytes.ref_ptr _ (why-bad a.s a.views.now a.bytes.now a.nulls.now a.places.now a.count a.r a.b
     (sym c.fits_with.ensures
-    ∙ not-false _ c.if-not-fits_with.false) c.if-rows-r.false _
-    c.spot_row-spot.ensures.1 (sym c.is_reached.ensures ∙ not-true _ c.if-not-is_reached.true)) refl refl refl
+    ∙ c.if-not-fits_with.false) c.if-rows-r.false _
+    c.spot_row-spot.ensures.1 (sym c.is_reached.ensures ∙ c.if-not-is_reached.true)) refl refl refl
 
 pub part_of-requires : goal.part_of-requires
 part_of-requires c = c.spot_row-spot.ensures.0
@@ -44,6 +44,6 @@ returns c =
     let a = c.args in
     got-part a.s a.views.now a.bytes.now a.nulls.now a.places.now a.count a.r a.b
     (sym c.fits_with.ensures
-    ∙ not-false _ c.if-not-fits_with.false) c.if-rows-r.false _
-    c.spot_row-spot.ensures.1 (sym c.is_reached.ensures ∙ not-false _ c.if-not-is_reached.false) _
+    ∙ c.if-not-fits_with.false) c.if-rows-r.false _
+    c.spot_row-spot.ensures.1 (sym c.is_reached.ensures ∙ c.if-not-is_reached.false) _
     a.views.ref_ptr a.bytes.ref_ptr _ c.part_of.ensures.0 c.part_of.ensures.1

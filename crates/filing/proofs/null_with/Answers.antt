@@ -16,14 +16,14 @@ returns-then-not-is_accepted c =
     null-no c.args.s c.args.views.now c.args.bytes.now c.args.nulls.now c.args.places.now c.args.count _ _
     _ c.rows_room-room.ensures c.blocks_room.ensures
     c.bytes_room.ensures _ c.why_null-w.ensures (sym c.is_accepted.ensures
-    ∙ not-true _ c.if-not-is_accepted.true)
+    ∙ c.if-not-is_accepted.true)
 
 pub overflow_mul-rows : goal.overflow_mul-rows
 overflow_mul-rows c =
     let f = null-room c.args.s c.args.views.now c.args.bytes.now c.args.nulls.now c.args.places.now
     c.args.count _ _ _ c.rows_room-room.ensures
     c.blocks_room.ensures c.bytes_room.ensures _
-    c.why_null-w.ensures (sym c.is_accepted.ensures ∙ not-false _ c.if-not-is_accepted.false) in
+    c.why_null-w.ensures (sym c.is_accepted.ensures ∙ c.if-not-is_accepted.false) in
     omega (arith, f.room.rows, row-limit-small)
 
 pub zero_view-requires : goal.zero_view-requires
@@ -31,7 +31,7 @@ zero_view-requires c =
     let f = null-room c.args.s c.args.views.now c.args.bytes.now c.args.nulls.now c.args.places.now
     c.args.count _ _ _ c.rows_room-room.ensures
     c.blocks_room.ensures c.bytes_room.ensures _
-    c.why_null-w.ensures (sym c.is_accepted.ensures ∙ not-false _ c.if-not-is_accepted.false) in
+    c.why_null-w.ensures (sym c.is_accepted.ensures ∙ c.if-not-is_accepted.false) in
     omega (arith, f.room.views)
 
 pub put_bit-requires : goal.put_bit-requires
@@ -40,17 +40,17 @@ put_bit-requires c =
     c.args.count _ _ _ c.rows_room-room.ensures c.blocks_room.ensures c.bytes_room.ensures _
     c.why_null-w.ensures
     (sym c.is_accepted.ensures
-    ∙ not-false _ c.if-not-is_accepted.false) in omega (arith, f.room.bits)
+    ∙ c.if-not-is_accepted.false) in omega (arith, f.room.bits)
 
 pub row_more-t-requires : goal.row_more-t-requires
 row_more-t-requires c =
     let f = null-room c.args.s c.args.views.now c.args.bytes.now c.args.nulls.now c.args.places.now
     c.args.count _ _ _ c.rows_room-room.ensures c.blocks_room.ensures c.bytes_room.ensures _ c.why_null-w.ensures
-    (sym c.is_accepted.ensures ∙ not-false _ c.if-not-is_accepted.false) in f.room.rows
+    (sym c.is_accepted.ensures ∙ c.if-not-is_accepted.false) in f.room.rows
 
 pub returns : goal.returns
 returns c =
     null-yes c.args.s c.args.views.now c.args.bytes.now c.args.nulls.now c.args.places.now c.args.count _
     _ _ c.rows_room-room.ensures c.blocks_room.ensures c.bytes_room.ensures _ c.why_null-w.ensures
-    (sym c.is_accepted.ensures ∙ not-false _ c.if-not-is_accepted.false) c.row_more-t.ensures
+    (sym c.is_accepted.ensures ∙ c.if-not-is_accepted.false) c.row_more-t.ensures
     c.zero_view.ensures c.put_bit.ensures

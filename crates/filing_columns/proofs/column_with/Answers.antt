@@ -23,13 +23,13 @@ returns-then-not-is_accepted c =
     let a = c.args in
     poured-no a.s a.views.now a.nulls.now a.srcviews.now a.srcnulls.now a.c a.bytes a.count a.places a.w
     a.m _ c.why_with-v.ensures _ c.unpoured.ensures (sym c.is_accepted.ensures ∙ not-true _
-    c.if-not-is_accepted.true)
+    c.if-not-is_accepted.true-raw)
 
 pub close-t-requires : goal.close-t-requires
 close-t-requires c =
     let a = c.args in
     let k = roomy a.s a.views.now a.nulls.now a.srcviews.now a.srcnulls.now a.c a.bytes a.count a.places a.w
-    a.m _ c.why_with-v.ensures c.requires (sym c.is_accepted.ensures ∙ not-false _ c.if-not-is_accepted.false) in
+    a.m _ c.why_with-v.ensures c.requires (sym c.is_accepted.ensures ∙ c.if-not-is_accepted.false) in
     (omega (arith, k.blocks, block-limit-small), omega (arith, k.small, byte-limit-small))
 
 pub put_rows-requires : goal.put_rows-requires
@@ -39,7 +39,7 @@ put_rows-requires c =
     let k = roomy a.s a.views.now a.nulls.now a.srcviews.now a.srcnulls.now a.c a.bytes a.count a.places a.w
     a.m _ c.why_with-v.ensures
     c.requires (sym
-    c.is_accepted.ensures ∙ not-false _ c.if-not-is_accepted.false) in
+    c.is_accepted.ensures ∙ c.if-not-is_accepted.false) in
     let b = ap (λ (z : State). z.blocks) c.close-t.ensures in
     (k.views-room, k.src-room, omega (arith, b, k.blocks, block-limit-small))
 
@@ -50,7 +50,7 @@ copy_column-requires c =
     a.m _ c.why_with-v.ensures
     c.requires (sym
     c.is_accepted.ensures ∙ not-false _
-    c.if-not-is_accepted.false) in
+    c.if-not-is_accepted.false-raw) in
     (k.bits, omega (arith, k.rows, row-limit-small), k.srcbits, omega (arith, k.srcrows, row-limit-small))
 
 pub count_nulls-requires : goal.count_nulls-requires
@@ -59,7 +59,7 @@ count_nulls-requires c =
     let k = roomy a.s a.views.now a.nulls.now a.srcviews.now a.srcnulls.now a.c a.bytes a.count a.places a.w
     a.m _ c.why_with-v.ensures
     c.requires (sym c.is_accepted.ensures
-    ∙ not-false _ c.if-not-is_accepted.false) in
+    ∙ c.if-not-is_accepted.false) in
     k.srcbits
 
 pub overflow_add-base : goal.overflow_add-base
@@ -67,7 +67,7 @@ unfolding closed
 overflow_add-base c =
     let a = c.args in
     let k = roomy a.s a.views.now a.nulls.now a.srcviews.now a.srcnulls.now a.c a.bytes a.count a.places a.w
-    a.m _ c.why_with-v.ensures c.requires (sym c.is_accepted.ensures ∙ not-false _ c.if-not-is_accepted.false) in
+    a.m _ c.why_with-v.ensures c.requires (sym c.is_accepted.ensures ∙ c.if-not-is_accepted.false) in
     let d = ap (λ (z : State). z.base) c.close-t.ensures in
     omega (arith, d, k.small, byte-limit-small)
 
@@ -76,7 +76,7 @@ unfolding closed
 column_more-u-requires c =
     let a = c.args in
     let k = roomy a.s a.views.now a.nulls.now a.srcviews.now a.srcnulls.now a.c a.bytes a.count a.places a.w
-    a.m _ c.why_with-v.ensures c.requires (sym c.is_accepted.ensures ∙ not-false _ c.if-not-is_accepted.false) in
+    a.m _ c.why_with-v.ensures c.requires (sym c.is_accepted.ensures ∙ c.if-not-is_accepted.false) in
     let b = ap (λ (z : State). z.blocks) c.close-t.ensures in
     let r = ap (λ (z : State). z.rows) c.close-t.ensures in
     (omega (arith, r, k.rows), omega (arith, b, k.blocks))
@@ -85,6 +85,6 @@ pub returns : goal.returns
 returns c =
     let a = c.args in
     poured-yes a.s a.views.now a.nulls.now a.srcviews.now a.srcnulls.now a.c a.bytes a.count a.places a.w
-    a.m _ c.why_with-v.ensures _ _ _ (sym c.is_accepted.ensures ∙ not-false _ c.if-not-is_accepted.false) c.close-t.ensures c.open_record-e.ensures c.put_rows.ensures
+    a.m _ c.why_with-v.ensures _ _ _ (sym c.is_accepted.ensures ∙ c.if-not-is_accepted.false) c.close-t.ensures c.open_record-e.ensures c.put_rows.ensures
     c.copy_column.ensures (c.flag-some.ensures ∙ ap (λ (z : ℕ). pick (eqb z 0)
     a.s.nulled true) c.count_nulls.ensures) c.column_more-u.ensures

@@ -12,20 +12,20 @@ pub returns-then-not-is_accepted : goal.returns-then-not-is_accepted
 returns-then-not-is_accepted c =
     let a = c.args in
     viewed-no a.s a.views.now a.bytes.now a.nulls.now a.places.now a.count a.k a.offset a.n a.b _
-    c.why_view-w.ensures (sym c.is_accepted.ensures ∙ not-true _ c.if-not-is_accepted.true)
+    c.why_view-w.ensures (sym c.is_accepted.ensures ∙ c.if-not-is_accepted.true)
 
 pub overflow_add-a : goal.overflow_add-a
 overflow_add-a c =
     let a = c.args in
     let g = shows a.s a.views.now a.bytes.now a.nulls.now a.places.now a.count a.k a.offset a.n a.b _
-    c.why_view-w.ensures (sym c.is_accepted.ensures ∙ not-false _ c.if-not-is_accepted.false) in
+    c.why_view-w.ensures (sym c.is_accepted.ensures ∙ c.if-not-is_accepted.false) in
     omega (arith, g.small, byte-limit-small)
 
 pub overflow_add-e : goal.overflow_add-e
 overflow_add-e c =
     let a = c.args in
     let g = shows a.s a.views.now a.bytes.now a.nulls.now a.places.now a.count a.k a.offset a.n a.b _
-    c.why_view-w.ensures (sym c.is_accepted.ensures ∙ not-false _ c.if-not-is_accepted.false) in
+    c.why_view-w.ensures (sym c.is_accepted.ensures ∙ c.if-not-is_accepted.false) in
     omega (arith, g.small, byte-limit-small)
 
 pub overflow_mul-rows : goal.overflow_mul-rows
@@ -33,7 +33,7 @@ overflow_mul-rows c =
     let a = c.args in
     let g = shows a.s a.views.now a.bytes.now a.nulls.now a.places.now a.count a.k a.offset a.n a.b _
     c.why_view-w.ensures (sym c.is_accepted.ensures ∙ not-false _
-    c.if-not-is_accepted.false) in
+    c.if-not-is_accepted.false-raw) in
     omega (arith, g.rows, row-limit-small)
 
 pub slice_bounds-put_view-end : goal.slice_bounds-put_view-end
@@ -41,7 +41,7 @@ slice_bounds-put_view-end c =
     let a = c.args in
     let g = shows a.s a.views.now a.bytes.now a.nulls.now a.places.now a.count a.k a.offset a.n a.b _
     c.why_view-w.ensures (sym c.is_accepted.ensures ∙ not-false _
-    c.if-not-is_accepted.false) in
+    c.if-not-is_accepted.false-raw) in
     omega (arith, g.inside)
 
 pub put_view-requires : goal.put_view-requires
@@ -49,7 +49,7 @@ put_view-requires c =
     let a = c.args in
     let g = shows a.s a.views.now a.bytes.now a.nulls.now a.places.now a.count a.k a.offset a.n a.b _
     c.why_view-w.ensures (sym c.is_accepted.ensures ∙ not-false _
-    c.if-not-is_accepted.false) in
+    c.if-not-is_accepted.false-raw) in
     (g.views, simp (length-take) (omega (arith, g.inside, g.small, byte-limit-small)))
 
 pub put_bit-requires : goal.put_bit-requires
@@ -58,7 +58,7 @@ put_bit-requires c =
     let g = shows a.s a.views.now a.bytes.now a.nulls.now a.places.now a.count a.k a.offset a.n a.b _
     c.why_view-w.ensures (sym
     c.is_accepted.ensures ∙ not-false _
-    c.if-not-is_accepted.false) in
+    c.if-not-is_accepted.false-raw) in
     g.bits
 
 pub row_more-t-requires : goal.row_more-t-requires
@@ -70,7 +70,7 @@ row_more-t-requires c =
     let g = shows a.s a.views.now a.bytes.now a.nulls.now a.places.now a.count a.k a.offset a.n a.b _
     c.why_view-w.ensures (sym
     c.is_accepted.ensures ∙ not-false _
-    c.if-not-is_accepted.false) in
+    c.if-not-is_accepted.false-raw) in
     g.rows
 
 pub returns : goal.returns
@@ -82,5 +82,5 @@ returns c =
     viewed-yes a.s a.views.now a.bytes.now a.nulls.now a.places.now a.count a.k a.offset a.n a.b _
     c.why_view-w.ensures (sym
     c.is_accepted.ensures ∙ not-false _
-    c.if-not-is_accepted.false) c.row_more-t.ensures
+    c.if-not-is_accepted.false-raw) c.row_more-t.ensures
     c.put_view.ensures c.put_bit.ensures

@@ -14,47 +14,47 @@ pub returns-then-not-fits_with : goal.returns-then-not-fits_with
 returns-then-not-fits_with c =
     let a = c.args in
     says-fit a.s a.views.now a.bytes.now a.nulls.now a.places.now a.count a.k a.offset a.n a.b (sym
-    c.fits_with.ensures ∙ not-true _ c.if-not-fits_with.true)
+    c.fits_with.ensures ∙ c.if-not-fits_with.true)
 
 pub returns-then-s-k : goal.returns-then-s-k
 returns-then-s-k c =
     let a = c.args in
     says_none a.s a.views.now a.bytes.now a.nulls.now a.places.now a.count a.k a.offset a.n a.b (sym
-    c.fits_with.ensures ∙ not-false _ c.if-not-fits_with.false) c.if-s-k.true
+    c.fits_with.ensures ∙ c.if-not-fits_with.false) c.if-s-k.true
 
 pub returns-then-not-in_data : goal.returns-then-not-in_data
 returns-then-not-in_data c =
     let a = c.args in
     says-outside a.s a.views.now a.bytes.now a.nulls.now a.places.now a.count a.k a.offset a.n a.b (sym
-    c.fits_with.ensures ∙ not-false _ c.if-not-fits_with.false)
-    c.if-s-k.false (sym c.in_data.ensures ∙ not-true _ c.if-not-in_data.true)
+    c.fits_with.ensures ∙ c.if-not-fits_with.false)
+    c.if-s-k.false (sym c.in_data.ensures ∙ c.if-not-in_data.true)
 
 pub returns-then-size-o : goal.returns-then-size-o
 returns-then-size-o c =
     let a = c.args in
     says-over a.s a.views.now a.bytes.now a.nulls.now a.places.now a.count a.k a.offset a.n a.b (sym
-    c.fits_with.ensures ∙ not-false _ c.if-not-fits_with.false)
-    c.if-s-k.false (sym c.in_data.ensures ∙ not-false _ c.if-not-in_data.false) c.if-size-o.true
+    c.fits_with.ensures ∙ c.if-not-fits_with.false)
+    c.if-s-k.false (sym c.in_data.ensures ∙ c.if-not-in_data.false) c.if-size-o.true
 
 pub overflow_add-a : goal.overflow_add-a
 overflow_add-a c =
     let a = c.args in
     let d = in-data-gives (buffers [] a.bytes.now [] []) a.b.start a.b.len (sym c.in_data.ensures ∙ not-false _
-    c.if-not-in_data.false) in
+    c.if-not-in_data.false-raw) in
     omega (arith, d, c.if-size-o.false, byte-limit-small)
 
 pub overflow_add-e : goal.overflow_add-e
 overflow_add-e c =
     let a = c.args in
     let d = in-data-gives (buffers [] a.bytes.now [] []) a.b.start a.b.len (sym c.in_data.ensures ∙ not-false _
-    c.if-not-in_data.false) in
+    c.if-not-in_data.false-raw) in
     omega (arith, d, c.if-size-o.false, byte-limit-small)
 
 pub slice_bounds-of_kind-end : goal.slice_bounds-of_kind-end
 slice_bounds-of_kind-end c =
     let a = c.args in
     let d = in-data-gives (buffers [] a.bytes.now [] []) a.b.start a.b.len (sym c.in_data.ensures ∙ not-false _
-    c.if-not-in_data.false) in
+    c.if-not-in_data.false-raw) in
     omega (arith, d, c.if-size-o.false)
 
 pub returns-then-not-of_kind : goal.returns-then-not-of_kind
@@ -62,28 +62,28 @@ returns-then-not-of_kind c =
     let a = c.args in
     says-kind a.s a.views.now a.bytes.now a.nulls.now a.places.now a.count a.k a.offset a.n a.b (sym
     c.fits_with.ensures ∙ not-false _
-    c.if-not-fits_with.false) c.if-s-k.false
-    (sym c.in_data.ensures ∙ not-false _ c.if-not-in_data.false)
-    c.if-size-o.false _ c.of_kind.ensures (not-true _ c.if-not-of_kind.true)
+    c.if-not-fits_with.false-raw) c.if-s-k.false
+    (sym c.in_data.ensures ∙ c.if-not-in_data.false)
+    c.if-size-o.false _ c.of_kind.ensures (c.if-not-of_kind.true)
 
 pub returns-then-rows_room-rows : goal.returns-then-rows_room-rows
 returns-then-rows_room-rows c =
     let a = c.args in
     says-full a.s a.views.now a.bytes.now a.nulls.now a.places.now a.count a.k a.offset a.n a.b (sym
     c.fits_with.ensures ∙ not-false _
-    c.if-not-fits_with.false)
+    c.if-not-fits_with.false-raw)
     c.if-s-k.false (sym
     c.in_data.ensures ∙ not-false _
-    c.if-not-in_data.false) c.if-size-o.false _
-    c.of_kind.ensures _ c.rows_room.ensures (not-false _ c.if-not-of_kind.false) c.if-rows_room-rows.true
+    c.if-not-in_data.false-raw) c.if-size-o.false _
+    c.of_kind.ensures _ c.rows_room.ensures (c.if-not-of_kind.false) c.if-rows_room-rows.true
 
 pub returns : goal.returns
 returns c =
     let a = c.args in
     says-fine a.s a.views.now a.bytes.now a.nulls.now a.places.now a.count a.k a.offset a.n a.b (sym
     c.fits_with.ensures ∙ not-false _
-    c.if-not-fits_with.false)
+    c.if-not-fits_with.false-raw)
     c.if-s-k.false (sym
     c.in_data.ensures ∙ not-false _
-    c.if-not-in_data.false) c.if-size-o.false _
-    c.of_kind.ensures _ c.rows_room.ensures (not-false _ c.if-not-of_kind.false) c.if-rows_room-rows.false
+    c.if-not-in_data.false-raw) c.if-size-o.false _
+    c.of_kind.ensures _ c.rows_room.ensures (c.if-not-of_kind.false) c.if-rows_room-rows.false

@@ -11,29 +11,29 @@ pub returns-then-not-fits_with : goal.returns-then-not-fits_with
 returns-then-not-fits_with c =
     let a = c.args in
     by-fit a.s a.views a.bytes a.count a.nulls a.places a.c a.w a.m (sym c.fits_with.ensures ∙ not-true _
-    c.if-not-fits_with.true)
+    c.if-not-fits_with.true-raw)
 
 pub returns-then-not-is_accepted : goal.returns-then-not-is_accepted
 returns-then-not-is_accepted c =
     let a = c.args in
     by-source a.s a.views a.bytes a.count a.nulls a.places a.c a.w a.m (sym
-    c.fits_with.ensures ∙ not-false _ c.if-not-fits_with.false) (sym c.is_accepted.ensures
-    ∙ not-true _ c.if-not-is_accepted.true)
+    c.fits_with.ensures ∙ c.if-not-fits_with.false) (sym c.is_accepted.ensures
+    ∙ c.if-not-is_accepted.true)
 
 pub overflow_add-have : goal.overflow_add-have
 overflow_add-have c =
     let a = c.args in
     let f = fit_small a.s a.views a.bytes a.count a.nulls a.places a.c a.w a.m (sym
-    c.fits_with.ensures ∙ not-false _ c.if-not-fits_with.false) in
-    let p = c.requires (sym c.is_accepted.ensures ∙ not-false _ c.if-not-is_accepted.false) in
+    c.fits_with.ensures ∙ c.if-not-fits_with.false) in
+    let p = c.requires (sym c.is_accepted.ensures ∙ c.if-not-is_accepted.false) in
     omega (arith, f.0, p.0, row-limit-small)
 
 pub returns-then-rows_room-have : goal.returns-then-rows_room-have
 returns-then-rows_room-have c =
     let a = c.args in
     by-full a.s a.views a.bytes a.count a.nulls a.places a.c a.w a.m (sym
-    c.fits_with.ensures ∙ not-false _ c.if-not-fits_with.false) (sym
-    c.is_accepted.ensures ∙ not-false _ c.if-not-is_accepted.false) _ c.rows_room.ensures
+    c.fits_with.ensures ∙ c.if-not-fits_with.false) (sym
+    c.is_accepted.ensures ∙ c.if-not-is_accepted.false) _ c.rows_room.ensures
     c.if-rows_room-have.true
 
 pub why_room-requires : goal.why_room-requires
@@ -41,9 +41,9 @@ why_room-requires c =
     let a = c.args in
     let f = fit_small a.s a.views a.bytes a.count a.nulls a.places a.c a.w a.m (sym
     c.fits_with.ensures ∙ not-false _
-    c.if-not-fits_with.false) in
+    c.if-not-fits_with.false-raw) in
     let p = c.requires (sym
-    c.is_accepted.ensures ∙ not-false _ c.if-not-is_accepted.false) in
+    c.is_accepted.ensures ∙ c.if-not-is_accepted.false) in
     (omega (arith, f.1, p.1, block-limit-small), omega (arith, f.2, p.1, p.2, block-limit-small, byte-limit-small))
 
 pub returns : goal.returns
@@ -51,8 +51,8 @@ returns c =
     let a = c.args in
     by-room a.s a.views a.bytes a.count a.nulls a.places a.c a.w a.m (sym
     c.fits_with.ensures ∙ not-false _
-    c.if-not-fits_with.false) (sym
+    c.if-not-fits_with.false-raw) (sym
     c.is_accepted.ensures ∙ not-false _
-    c.if-not-is_accepted.false) _ c.rows_room.ensures
+    c.if-not-is_accepted.false-raw) _ c.rows_room.ensures
     c.if-rows_room-have.false _ _ _ c.blocks_room.ensures c.bytes_room.ensures
     c.why_room.ensures

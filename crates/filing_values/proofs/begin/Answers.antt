@@ -15,7 +15,7 @@ pub returns-then-not-does_merge : goal.returns-then-not-does_merge
 returns-then-not-does_merge c =
     (
       λ hit l. begin-off c.args.places.now hit c.args.s c.args.x.now _ c.does_merge.ensures
-          (not-true _ c.if-not-does_merge.true),
+          (c.if-not-does_merge.true),
       λ h. absurd (omega arith),
     )
 
@@ -23,7 +23,7 @@ pub returns-then-n-eq0 : goal.returns-then-n-eq0
 returns-then-n-eq0 c =
     (
       λ hit l. begin-none c.args.places.now hit c.args.s c.args.x.now _ c.does_merge.ensures
-          (not-false _ c.if-not-does_merge.false) c.if-n-eq0.true,
+          (c.if-not-does_merge.false) c.if-n-eq0.true,
       λ h. absurd (omega arith),
     )
 
@@ -34,7 +34,7 @@ pub returns : goal.returns
 returns c =
     (
       λ hit l. begin-on c.args.places.now hit c.args.s c.args.x.now _ _ c.does_merge.ensures
-          (not-false _ c.if-not-does_merge.false) (ap (λ (z : ℕ). z % length c.args.places.now) c.hash.ensures),
+          (c.if-not-does_merge.false) (ap (λ (z : ℕ). z % length c.args.places.now) c.hash.ensures),
       λ h. mod-lt _
           (omega (arith, c.if-n-eq0.false)),
     )

@@ -54,13 +54,13 @@ why_lay-w-requires c =
 pub returns-then-not-is_accepted : goal.returns-then-not-is_accepted
 returns-then-not-is_accepted c =
     (
-      λ z. absurd (true≢false (sym z ∙ sym c.is_accepted.ensures ∙ not-true _ c.if-not-is_accepted.true)),
+      λ z. absurd (true≢false (sym z ∙ sym c.is_accepted.ensures ∙ c.if-not-is_accepted.true)),
       files-full c.args.s
           c.args.views.now c.args.bytes.now c.args.nulls.now c.args.places.now c.args.x.now c.args.count _
           c.requires.0 c.requires.1 _ c.is_row.ensures
           c.if-is_row.false _ _ _ c.blocks_room.ensures
           c.bytes_room.ensures c.why_lay-w.ensures (sym c.is_accepted.ensures
-          ∙ not-true _ c.if-not-is_accepted.true) _,
+          ∙ c.if-not-is_accepted.true) _,
     )
 
 pub enter-requires : goal.enter-requires
@@ -90,7 +90,7 @@ lay-requires c =
     let f = fits_gives c.args.s c.args.views.now c.args.bytes.now (blank c.args.count) (blank c.args.count)
     c.args.nulls.now c.args.places.now c.requires.0.fit in let u = ap used c.room_state-t.ensures
     ∙ room-used c.args.s (length c.args.x.now) in let k = lay-room _ _ _ _ (ap is_accepted (sym c.why_lay-w.ensures)
-    ∙ sym c.is_accepted.ensures ∙ not-false _ c.if-not-is_accepted.false) in
+    ∙ sym c.is_accepted.ensures ∙ c.if-not-is_accepted.false) in
     omega (arith, u, k, c.bytes_room.ensures, bytes-room-le (length c.args.bytes.now))
 
 pub overflow_mul-rows : goal.overflow_mul-rows
@@ -151,7 +151,7 @@ returns c =
       files-lay c.args.s c.args.views.now c.args.bytes.now c.args.nulls.now
           c.args.places.now c.args.x.now c.args.count _ c.requires.0 c.requires.1 _ c.is_row.ensures c.if-is_row.false _ _
           _ c.blocks_room.ensures c.bytes_room.ensures c.why_lay-w.ensures _ _ _ (sym c.is_accepted.ensures
-          ∙ not-false _ c.if-not-is_accepted.false) c.room_state-t.ensures c.room_record-e.ensures c.stored-u.ensures
+          ∙ c.if-not-is_accepted.false) c.room_state-t.ensures c.room_record-e.ensures c.stored-u.ensures
           c.long_view.ensures c.lay.ensures
           c.put_bit-2.ensures c.enter.ensures,
     )

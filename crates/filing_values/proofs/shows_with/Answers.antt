@@ -51,7 +51,7 @@ returns-then-not-in_data c = λ ss ns rd lim long nm. shows-no-data _ _ _ ss ns 
     (or-size c.args.s _ _
     ss ns _ c.record_or-d.ensures.1
     (nm c.if-s-r.false _
-    c.view_block-k.ensures.0)) _ c.in_data.ensures (not-true _ c.if-not-in_data.true)
+    c.view_block-k.ensures.0)) _ c.in_data.ensures (c.if-not-in_data.true)
 
 pub returns-then-size-o : goal.returns-then-size-o
 returns-then-size-o c = λ ss ns rd lim long nm. shows-over _ _ _ ss ns _ _ rd _ _
@@ -64,14 +64,14 @@ returns-then-size-o c = λ ss ns rd lim long nm. shows-over _ _ _ ss ns _ _ rd _
     (or-size c.args.s _ _ ss ns _ c.record_or-d.ensures.1
     (nm c.if-s-r.false _
     c.view_block-k.ensures.0)) _ c.in_data.ensures
-    (not-false _ c.if-not-in_data.false) _ c.view_offset-o.ensures.0 (omega arith)
+    (c.if-not-in_data.false) _ c.view_offset-o.ensures.0 (omega arith)
 
 pub overflow_add-a : goal.overflow_add-a
 overflow_add-a c = omega (
   arith,
   byte-limit-small,
   (in-data-gives _ _ _ (sym c.in_data.ensures
-      ∙ not-false _ c.if-not-in_data.false)),
+      ∙ c.if-not-in_data.false)),
 )
 
 pub overflow_add-e : goal.overflow_add-e
@@ -79,11 +79,11 @@ overflow_add-e c = omega (
   arith,
   byte-limit-small,
   (in-data-gives _ _ _ (sym c.in_data.ensures
-      ∙ not-false _ c.if-not-in_data.false)),
+      ∙ c.if-not-in_data.false)),
 )
 
 pub slice_bounds-same-end : goal.slice_bounds-same-end
-slice_bounds-same-end c = omega (arith, (in-data-gives _ _ _ (sym c.in_data.ensures ∙ not-false _ c.if-not-in_data.false)))
+slice_bounds-same-end c = omega (arith, (in-data-gives _ _ _ (sym c.in_data.ensures ∙ c.if-not-in_data.false)))
 
 pub returns : goal.returns
 returns c = λ ss ns rd lim long nm. shows-here _ _ _ ss ns _ _ rd _ _
@@ -96,5 +96,5 @@ returns c = λ ss ns rd lim long nm. shows-here _ _ _ ss ns _ _ rd _ _
     (or-size c.args.s _ _ ss ns _ c.record_or-d.ensures.1
     (nm c.if-s-r.false _
     c.view_block-k.ensures.0)) _
-    c.in_data.ensures (not-false _ c.if-not-in_data.false) _
+    c.in_data.ensures (c.if-not-in_data.false) _
     c.view_offset-o.ensures.0 _ (omega arith) c.same.ensures

@@ -4,7 +4,7 @@ use Rattle.finishing.proofs.growth_of.Goals as goal
 
 pub returns-in-Doubled : goal.returns-in-Doubled
 unfolding start_size
-returns-in-Doubled c = rw c.enum_told-1.given.1
+returns-in-Doubled c = rw c.in-Doubled.is
 
 pub returns-in-Same : goal.returns-in-Same
-returns-in-Same c = rw c.s-1.given.1
+returns-in-Same c = rw c.in-Same.is

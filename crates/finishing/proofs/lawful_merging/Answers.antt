@@ -2,4 +2,4 @@ use borrow.Author.Rules.{rules}
 use Rattle.finishing.proofs.lawful_merging.Goals as goal
 
 pub returns-in-UpTo : goal.returns-in-UpTo
-returns-in-UpTo c = rw c.m-1.given.1
+returns-in-UpTo c = rw c.in-UpTo.is

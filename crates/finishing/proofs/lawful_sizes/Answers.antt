@@ -2,4 +2,4 @@ use borrow.Author.Rules.{rules}
 use Rattle.finishing.proofs.lawful_sizes.Goals as goal
 
 pub returns-in-Same : goal.returns-in-Same
-returns-in-Same c = rw c.s-1.given.1 c.lawful_size.ensures
+returns-in-Same c = rw c.in-Same.is c.lawful_size.ensures

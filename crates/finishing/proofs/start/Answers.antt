@@ -7,13 +7,13 @@ use borrow.Author.Rules.{rules}
 use Rattle.finishing.proofs.start.Goals as goal
 
 pub returns-then-not-lawful_sizes : goal.returns-then-not-lawful_sizes
-returns-then-not-lawful_sizes c = start-no _ _ _ (rw (sym c.lawful_sizes.ensures ∙ not-true _ c.if-not-lawful_sizes.true)) c.empty_state.ensures
+returns-then-not-lawful_sizes c = start-no _ _ _ (rw (sym c.lawful_sizes.ensures ∙ c.if-not-lawful_sizes.true)) c.empty_state.ensures
 
 pub returns-then-not-lawful_merging : goal.returns-then-not-lawful_merging
 returns-then-not-lawful_merging c = start-no _ _ _ (rw (
   (sym c.lawful_sizes.ensures
-      ∙ not-false _ c.if-not-lawful_sizes.false),
-  sym c.lawful_merging.ensures ∙ not-true _ c.if-not-lawful_merging.true,
+      ∙ c.if-not-lawful_sizes.false),
+  sym c.lawful_merging.ensures ∙ c.if-not-lawful_merging.true,
 ))
     c.empty_state-then-not-lawful_merging.ensures
 
@@ -21,9 +21,9 @@ pub returns : goal.returns
 returns c =
     let a = c.args in
     start-yes _ _ _ _ (rw (
-      (sym c.lawful_sizes.ensures ∙ not-false _ c.if-not-lawful_sizes.false),
+      (sym c.lawful_sizes.ensures ∙ c.if-not-lawful_sizes.false),
       sym
           c.lawful_merging.ensures
-          ∙ not-false _ c.if-not-lawful_merging.false,
+          ∙ c.if-not-lawful_merging.false,
     )) (c.empty_state-2.ensures
     ∙ ap (λ (g : Growth). empty_state a.t.kind g a.t.merging) c.growth_of.ensures) c.clear.ensures

@@ -7,24 +7,24 @@ use borrow.Author.Rules.{rules}
 use Rattle.finishing.proofs.why_get.Goals as goal
 
 pub returns-then-not-fits_lent : goal.returns-then-not-fits_lent
-returns-then-not-fits_lent c = get_fit _ _ _ _ _ _ _ _ (sym c.fits_lent.ensures ∙ not-true _ c.if-not-fits_lent.true)
+returns-then-not-fits_lent c = get_fit _ _ _ _ _ _ _ _ (sym c.fits_lent.ensures ∙ c.if-not-fits_lent.true)
 
 pub returns-then-rows-r : goal.returns-then-rows-r
-returns-then-rows-r c = get-late _ _ _ _ _ _ _ _ (sym c.fits_lent.ensures ∙ not-false _ c.if-not-fits_lent.false) c.if-rows-r.true
+returns-then-rows-r c = get-late _ _ _ _ _ _ _ _ (sym c.fits_lent.ensures ∙ c.if-not-fits_lent.false) c.if-rows-r.true
 
 pub spot_row-requires : goal.spot_row-requires
 spot_row-requires c =
     let a = c.args in
     let f = fits_gives a.s a.views.now a.bytes.now a.starts.now a.lens.now a.nulls.now a.places.now
-    (sym c.fits_lent.ensures ∙ not-false _ c.if-not-fits_lent.false) in
+    (sym c.fits_lent.ensures ∙ c.if-not-fits_lent.false) in
     (ready a.s a.views.now a.bytes.now a.starts.now a.lens.now a.nulls.now a.places.now f, c.if-rows-r.false)
 
 pub returns-then-not-is_reached : goal.returns-then-not-is_reached
 returns-then-not-is_reached c = get-bad _ _ _ _ _ _ _ _ (sym c.fits_lent.ensures
-    ∙ not-false _ c.if-not-fits_lent.false) c.if-rows-r.false
-    (sym (row-reach _ _ _ _ _ _ _ c.spot_row.ensures) ∙ sym c.is_reached.ensures ∙ not-true _ c.if-not-is_reached.true)
+    ∙ c.if-not-fits_lent.false) c.if-rows-r.false
+    (sym (row-reach _ _ _ _ _ _ _ c.spot_row.ensures) ∙ sym c.is_reached.ensures ∙ c.if-not-is_reached.true)
 
 pub returns : goal.returns
 returns c = get-fine _ _ _ _ _ _ _ _ (sym c.fits_lent.ensures
-    ∙ not-false _ c.if-not-fits_lent.false) c.if-rows-r.false
-    (sym (row-reach _ _ _ _ _ _ _ c.spot_row.ensures) ∙ sym c.is_reached.ensures ∙ not-false _ c.if-not-is_reached.false)
+    ∙ c.if-not-fits_lent.false) c.if-rows-r.false
+    (sym (row-reach _ _ _ _ _ _ _ c.spot_row.ensures) ∙ sym c.is_reached.ensures ∙ c.if-not-is_reached.false)

@@ -8,7 +8,7 @@ use borrow.Author.Rules.{rules}
 use Rattle.finishing.proofs.zero_all.Given as goal
 
 abbrev pub invariant-loop-k : goal.invariant-loop-k
-invariant-loop-k l = (l.k ≤ l.places) × (length l.initial.k ≡ length l.initial.places) × (l.initial.k ≡ zeroed l.k l.initial.places)
+invariant-loop-k l = (l.k ≤ l.n) × (length l.places ≡ length l.initial.places) × (l.places ≡ zeroed l.k l.initial.places)
 
 abbrev pub decreases-loop-k : goal.decreases-loop-k
-decreases-loop-k l = l.places - l.k
+decreases-loop-k l = l.n - l.k

@@ -10,7 +10,7 @@ use Rattle.growth.specs.GrowthLaws.{none_more, sheet-is, size-reached, size_none
 use Rattle.growth.proofs.next_size.Given as goal
 
 abbrev pub invariant-loop-k : goal.invariant-loop-k
-invariant-loop-k l = (l.k ≤ 8) × (l.initial.k ≡ size_after l.k) × (reached_in l.k l.s ≡ false)
+invariant-loop-k l = (l.k ≤ 8) × (l.before ≡ size_after l.k) × (reached_in l.k l.s ≡ false)
 
 abbrev pub decreases-loop-k : goal.decreases-loop-k
 decreases-loop-k l = 8 - l.k

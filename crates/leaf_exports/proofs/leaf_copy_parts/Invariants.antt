@@ -8,8 +8,8 @@ use Rattle.std.proofs.Common.{◌≡◌, ◌+◌, ◌-◌, ◌%◌, ◌<◌, ◌
 use Rattle.leaf_exports.proofs.leaf_copy_parts.Given as goal
 
 abbrev pub invariant-loop-o : goal.invariant-loop-o
-invariant-loop-o l = (0 < l.dst) × (l.n ≡ min (length l.src) (length l.initial.dst)) × (l.o ≤ l.n) × (l.o % l.dst ≡ 0) × (length l.initial.o ≡ length l.initial.dst)
-    × (l.initial.o ≡ copied_up_to l.initial.dst l.src l.o)
+invariant-loop-o l = (0 < l.n) × (l.room ≡ min (length l.src) (length l.initial.dst)) × (l.o ≤ l.room) × (l.o % l.n ≡ 0) × (length l.dst ≡ length l.initial.dst)
+    × (l.dst ≡ copied_up_to l.initial.dst l.src l.o)
 
 abbrev pub decreases-loop-o : goal.decreases-loop-o
-decreases-loop-o l = l.n - l.o
+decreases-loop-o l = l.room - l.o

@@ -6,7 +6,7 @@ use Rattle.std.proofs.Common.{◌≡◌, ◌+◌, ◌-◌, ◌/◌, ◌%◌, ◌
 use Rattle.leaf_exports.proofs.leaf_count_nulls.Given as goal
 
 abbrev pub invariant-loop-k : goal.invariant-loop-k
-invariant-loop-k l = (l.rows / 8 + 9 ≤ length l.map) × (l.k ≤ l.times) × (l.initial.k ≡ summed (λ j. count_nulls l.map true (j % 64) l.rows) l.k)
+invariant-loop-k l = (l.rows / 8 + 9 ≤ length l.map) × (l.k ≤ l.times) × (l.sum ≡ summed (λ j. count_nulls l.map true (j % 64) l.rows) l.k)
 
 abbrev pub decreases-loop-k : goal.decreases-loop-k
 decreases-loop-k l = l.times - l.k

@@ -9,7 +9,7 @@ use native.Mathlib.Omega.{arith}
 use Rattle.listing.proofs.put_bytes.Given as goal
 
 abbrev pub invariant-loop-k : goal.invariant-loop-k
-invariant-loop-k l = (l.k ≤ length l.at) × Put l.initial.out l.initial.k l.out (l.out + l.k) (take l.k l.at)
+invariant-loop-k l = (l.k ≤ length l.s) × Put l.initial.out l.out l.at (l.at + l.k) (take l.k l.s)
 
 abbrev pub decreases-loop-k : goal.decreases-loop-k
-decreases-loop-k l = length l.at - l.k
+decreases-loop-k l = length l.s - l.k

@@ -8,8 +8,8 @@ use native.Mathlib.Omega.{arith}
 use Rattle.listing.proofs.row_part.Given as goal
 
 abbrev pub invariant-loop-k : goal.invariant-loop-k
-invariant-loop-k l = (l.x ≤ l.k) × (l.k ≤ l.from) × (l.initial.k ≤ 5 * (l.k - l.x)) × (length l.w ≡ length l.initial.out)
-    × (take l.initial.k l.w ++ text_from l.out l.k ≡ text_from l.out l.x)
+invariant-loop-k l = (l.from ≤ l.k) × (l.k ≤ l.to) × (l.w ≤ 5 * (l.k - l.from)) × (length l.out ≡ length l.initial.out)
+    × (take l.w l.out ++ text_from l.x l.k ≡ text_from l.x l.from)
 
 abbrev pub decreases-loop-k : goal.decreases-loop-k
-decreases-loop-k l = l.from - l.k
+decreases-loop-k l = l.to - l.k

@@ -3,13 +3,13 @@ use borrow.Author.Rules.{rules}
 use Rattle.mark_blocks.proofs.add.Goals as goal
 
 pub returns-in-Null : goal.returns-in-Null
-returns-in-Null c = λ h. rw c.enum_told-1.given.1 (rw (c.more.ensures h.nulls))
+returns-in-Null c = λ h. rw c.in-Null.is (rw (c.more.ensures h.nulls))
 
 pub returns-in-Other : goal.returns-in-Other
-returns-in-Other c = λ h. rw c.enum_told-in-Other-1.given.1 (rw (c.more-in-Other.ensures h.others))
+returns-in-Other c = λ h. rw c.in-Other.is (rw (c.more-in-Other.ensures h.others))
 
 pub returns-in-Code : goal.returns-in-Code
-returns-in-Code c = λ h. rw c.enum_told-in-Code-1.given.1 (rw (c.more-in-Code.ensures h.codes))
+returns-in-Code c = λ h. rw c.in-Code.is (rw (c.more-in-Code.ensures h.codes))
 
 pub returns-in-Date : goal.returns-in-Date
-returns-in-Date c = λ h. rw c.enum_told-in-Date-1.given.1 (rw (c.more-in-Date.ensures h.dates))
+returns-in-Date c = λ h. rw c.in-Date.is (rw (c.more-in-Date.ensures h.dates))

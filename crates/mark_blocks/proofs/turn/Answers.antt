@@ -8,11 +8,11 @@ pub returns-in-Is : goal.returns-in-Is
 returns-in-Is c = (
   λ some. omega arith,
   λ table sees some h. counting_more _ _ _ h some _ (c.mark_by-m.ensures table sees) _
-      c.m-1.given.1 _ _ c.more.ensures c.add.ensures,
+      c.in-Is.is _ _ c.more.ensures c.add.ensures,
 )
 
 pub returns-in-Refused : goal.returns-in-Refused
 returns-in-Refused c = (
   λ some. omega arith,
-  λ table sees some h. counting-stop _ _ _ h some _ (c.mark_by-m.ensures table sees) _ c.enum_told-1.given.1,
+  λ table sees some h. counting-stop _ _ _ h some _ (c.mark_by-m.ensures table sees) _ c.in-Refused.is,
 )

@@ -3,16 +3,16 @@ use borrow.Author.Rules.{rules}
 use Rattle.marking.proofs.next_piece.Goals as goal
 
 pub returns-in-Refused : goal.returns-in-Refused
-returns-in-Refused c = left-refused _ _ _ _ c.p-1.given.1 c.Put-refused.ensures
+returns-in-Refused c = left-refused _ _ _ _ c.in-Refused.is c.Put-refused.ensures
 
 pub returns-in-Opening : goal.returns-in-Opening
-returns-in-Opening c = left-opening _ _ _ c.enum_told-1.given.1 c.line_piece.ensures
+returns-in-Opening c = left-opening _ _ _ c.in-Opening.is c.line_piece.ensures
 
 pub returns-in-Line : goal.returns-in-Line
-returns-in-Line c = left-row _ _ _ _ c.p-in-Line-1.given.1 c.line_piece-in-Line.ensures
+returns-in-Line c = left-row _ _ _ _ c.in-Line.is c.line_piece-in-Line.ensures
 
 pub returns-in-Part : goal.returns-in-Part
-returns-in-Part c = left-bytes _ _ _ _ _ c.p-in-Part-1.given.1 c.part_piece.ensures
+returns-in-Part c = left-bytes _ _ _ _ _ c.in-Part.is c.part_piece.ensures
 
 pub returns-in-End : goal.returns-in-End
-returns-in-End c = left_end _ _ _ _ c.enum_told-in-End-1.given.1
+returns-in-End c = left_end _ _ _ _ c.in-End.is

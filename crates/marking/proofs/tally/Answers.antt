@@ -4,4 +4,4 @@ use borrow.Author.Rules.{rules}
 use Rattle.marking.proofs.tally.Goals as goal
 
 pub returns-in-Refused : goal.returns-in-Refused
-returns-in-Refused c = ap tally_shown (sym c.t-in-Refused-1.given.1)
+returns-in-Refused c = ap tally_shown (sym c.in-Refused.is)

@@ -3,13 +3,13 @@ use borrow.Author.Rules.{rules}
 use Rattle.marks.proofs.add.Goals as goal
 
 pub returns-in-Null : goal.returns-in-Null
-returns-in-Null c = rw c.enum_told-1.given.1
+returns-in-Null c = rw c.in-Null.is
 
 pub returns-in-Other : goal.returns-in-Other
-returns-in-Other c = rw c.enum_told-in-Other-1.given.1
+returns-in-Other c = rw c.in-Other.is
 
 pub returns-in-Code : goal.returns-in-Code
-returns-in-Code c = rw c.enum_told-in-Code-1.given.1
+returns-in-Code c = rw c.in-Code.is
 
 pub returns-in-Date : goal.returns-in-Date
-returns-in-Date c = rw c.enum_told-in-Date-1.given.1
+returns-in-Date c = rw c.in-Date.is

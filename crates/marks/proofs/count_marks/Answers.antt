@@ -18,36 +18,36 @@ use Rattle.marks.specs.MarkingLaws.{stands-mark, fits-bit, tally-none, tally-mor
 use Rattle.marks.proofs.count_marks.Goals as goal
 
 pub returns-then-not-fits : goal.returns-then-not-fits
-returns-then-not-fits c = marks-unfit _ _ (sym c.fits2.ensures ∙ not-true _ c.if-not-fits.true)
+returns-then-not-fits c = marks-unfit _ _ (sym c.fits.ensures ∙ c.if-not-fits.true)
 
 pub loop-k-init : goal.loop-k-init
 loop-k-init c = (omega arith, (tally-none _ _, λ r h. absurd (omega arith)))
 
 pub overflow_add-at : goal.overflow_add-at
-overflow_add-at c = let g = fits_gives _ _ _ _ _ _ (sym c.fits2.ensures
-    ∙ not-false _ c.if-not-fits.false) in
+overflow_add-at c = let g = fits_gives _ _ _ _ _ _ (sym c.fits.ensures
+    ∙ c.if-not-fits.false) in
     omega (arith, row-limit-small)
 
 pub spot_at-s-requires : goal.spot_at-s-requires
-spot_at-s-requires c = fits-row _ _ _ _ _ _ _ (sym c.fits2.ensures
-    ∙ not-false _ c.if-not-fits.false) (omega arith)
+spot_at-s-requires c = fits-row _ _ _ _ _ _ _ (sym c.fits.ensures
+    ∙ c.if-not-fits.false) (omega arith)
 
 pub returns-then-not-is_reached : goal.returns-then-not-is_reached
-returns-then-not-is_reached c = marks-bad _ _ (sym c.fits2.ensures
-    ∙ not-false _ c.if-not-fits.false) _ (omega arith)
+returns-then-not-is_reached c = marks-bad _ _ (sym c.fits.ensures
+    ∙ c.if-not-fits.false) _ (omega arith)
     c.loop-k.invariant.1.1
     (sym (found-reach _ _ _ _ _ _ _ (c.spot_at-s.ensures ∙ spot-bare _ _ _ _ _ _ _ _))
-    ∙ sym c.is_reached.ensures ∙ not-true _ c.if-not-is_reached.true)
+    ∙ sym c.is_reached.ensures ∙ c.if-not-is_reached.true)
 
 pub valid_at-valid-requires : goal.valid_at-valid-requires
 valid_at-valid-requires c = λ m. let g = fits-bit _ _ c.loop-k.k
-    (sym c.fits2.ensures
-    ∙ not-false _ c.if-not-fits.false) (omega arith) m in omega arith
+    (sym c.fits.ensures
+    ∙ c.if-not-fits.false) (omega arith) m in omega arith
 
 pub add_there-t-requires : goal.add_there-t-requires
 add_there-t-requires c =
-    let fit = sym c.fits2.ensures
-    ∙ not-false _ c.if-not-fits.false in
+    let fit = sym c.fits.ensures
+    ∙ c.if-not-fits.false in
     let g = fits_gives _ _ _ _ _ _ fit in (
       found-lies _ _ c.args.nulls.now _ _ _ _
           (c.spot_at-s.ensures ∙ spot-bare _ _ _ _ _ _ _ _) (fits-view _ _ _ _ _ _ fit (omega arith)),
@@ -55,8 +55,8 @@ add_there-t-requires c =
     )
 
 pub overflow_add-k : goal.overflow_add-k
-overflow_add-k c = let g = fits_gives _ _ _ _ _ _ (sym c.fits2.ensures
-    ∙ not-false _ c.if-not-fits.false) in
+overflow_add-k c = let g = fits_gives _ _ _ _ _ _ (sym c.fits.ensures
+    ∙ c.if-not-fits.false) in
     omega (arith, row-limit-small)
 
 pub loop-k-smaller : goal.loop-k-smaller
@@ -67,7 +67,7 @@ unfolding row_valid
 loop-k-preserved c =
     let s = c.args in
     let stands = c.spot_at-s.ensures ∙ spot-bare _ _ _ _ _ _ _ _ in
-    let reached = sym c.is_reached.ensures ∙ not-false _ c.if-not-is_reached.false in (
+    let reached = sym c.is_reached.ensures ∙ c.if-not-is_reached.false in (
       omega arith,
       (
         tally-more _ _ _ _ _ _ c.loop-k.invariant.1.0
@@ -78,6 +78,6 @@ loop-k-preserved c =
     )
 
 pub returns : goal.returns
-returns c = marks-are _ _ (sym c.fits2.ensures
-    ∙ not-false _ c.if-not-fits.false) _ (omega arith)
+returns c = marks-are _ _ (sym c.fits.ensures
+    ∙ c.if-not-fits.false) _ (omega arith)
     c.loop-k.invariant.1.1 _ c.loop-k.invariant.1.0

@@ -18,7 +18,7 @@ use Rattle.marks.specs.MarkingLaws.{stands-mark, fits-bit, tally-none, tally-mor
 use Rattle.marks.proofs.count_marks.Given as goal
 
 abbrev pub invariant-loop-k : goal.invariant-loop-k
-invariant-loop-k l = (l.k ≤ l.c.rows) × ((l.initial.k ≡ tally_of (lent l.views l.bytes l.starts l.lens l.nulls) l.c l.k)
+invariant-loop-k l = (l.k ≤ l.c.rows) × ((l.t ≡ tally_of (lent l.views l.bytes l.starts l.lens l.nulls) l.c l.k)
     × ((r : ℕ) → r < l.k → reachable_at (lent l.views l.bytes l.starts l.lens l.nulls) l.c r ≡ true))
 
 abbrev pub decreases-loop-k : goal.decreases-loop-k

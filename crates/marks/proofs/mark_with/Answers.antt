@@ -7,15 +7,15 @@ use Rattle.marks.specs.MarkingLaws.{mark-no, mark-is, found-readable, fits-bit}
 use Rattle.marks.proofs.mark_with.Goals as goal
 
 pub mark_there-requires : goal.mark_there-requires
-mark_there-requires c = at_lies _ _ (0, 0) (0, 0) (0, 0) _ _ c.l-1.given.1 c.locate_with-l.ensures.0
+mark_there-requires c = at_lies _ _ (0, 0) (0, 0) (0, 0) _ _ c.in-At.is c.locate_with-l.ensures.0
 
 pub returns-in-At : goal.returns-in-At
 unfolding row_valid
 returns-in-At c = λ table sees.
     let e = c.locate_with-l.ensures.1 table sees in
-    let g = found-readable _ _ _ _ _ _ _ e _ c.l-1.given.1 in
-    mark-is _ _ _ _ _ _ _ e _ c.l-1.given.1 _
+    let g = found-readable _ _ _ _ _ _ _ e _ c.in-At.is in
+    mark-is _ _ _ _ _ _ _ e _ c.in-At.is _
     (c.valid_in-valid.ensures (fits-limit _ _ _ _ _ _ g.fit g.row) (fits-bit _ _ _ g.fit g.row)) _ c.mark_there.ensures
 
 pub returns-in-Refused : goal.returns-in-Refused
-returns-in-Refused c = λ table sees. mark-no _ _ _ _ _ _ _ (c.locate_with-l.ensures.1 table sees) _ c.l-in-Refused-1.given.1
+returns-in-Refused c = λ table sees. mark-no _ _ _ _ _ _ _ (c.locate_with-l.ensures.1 table sees) _ c.in-Refused.is

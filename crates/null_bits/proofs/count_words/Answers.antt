@@ -22,13 +22,13 @@ le64-requires c = omega arith
 
 pub overflow_cast-n : goal.overflow_cast-n
 overflow_cast-n c =
-    omega (arith, ones-le 64 _ c.le64.type-inv)
+    omega (arith, ones-le 64 _ c.le64.type_inv)
 
 pub overflow_add-n : goal.overflow_add-n
 overflow_add-n c =
     let a = c.args in
     let k = c.loop-k.k in
-    omega (arith, ones-le 64 _ c.le64.type-inv, count-le a.map.now (8 * a.i) (64 * k))
+    omega (arith, ones-le 64 _ c.le64.type_inv, count-le a.map.now (8 * a.i) (64 * k))
 
 pub overflow_add-k : goal.overflow_add-k
 overflow_add-k c = omega arith

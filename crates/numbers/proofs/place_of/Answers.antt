@@ -5,13 +5,13 @@ use Rattle.numbers.specs.Numbers.{place_of}
 use Rattle.numbers.proofs.place_of.Goals as goal
 
 pub returns-in-View : goal.returns-in-View
-returns-in-View c = sym (ap place_of c.s-1.given.1)
+returns-in-View c = sym (ap place_of c.in-View.is)
 
 pub returns-in-Data : goal.returns-in-Data
-returns-in-Data c = sym (ap place_of c.s-in-Data-1.given.1)
+returns-in-Data c = sym (ap place_of c.in-Data.is)
 
 pub returns-in-NoBlock : goal.returns-in-NoBlock
-returns-in-NoBlock c = sym (ap place_of c.enum_told-1.given.1)
+returns-in-NoBlock c = sym (ap place_of c.in-NoBlock.is)
 
 pub returns-in-Outside : goal.returns-in-Outside
-returns-in-Outside c = sym (ap place_of c.enum_told-in-Outside-1.given.1)
+returns-in-Outside c = sym (ap place_of c.in-Outside.is)

@@ -5,7 +5,7 @@ use borrow.Author.Rules.{rules}
 use Rattle.numbers.proofs.told_why.Goals as goal
 
 pub returns-in-Accepted : goal.returns-in-Accepted
-returns-in-Accepted c = sym (ap why_told c.enum_told-1.given.1)
+returns-in-Accepted c = sym (ap why_told c.in-Accepted.is)
 
 pub returns-in-Refused : goal.returns-in-Refused
-returns-in-Refused c = (λ i. record { number = c.number.ensures i; row = c.row.ensures i }) ∙ sym (ap why_told c.w-1.given.1)
+returns-in-Refused c = (λ i. record { number = c.number.ensures i; row = c.row.ensures i }) ∙ sym (ap why_told c.in-Refused.is)

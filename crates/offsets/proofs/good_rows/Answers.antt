@@ -32,7 +32,7 @@ returns-then-not-row_of_kind c = record {
   within = omega arith;
   truth = c.loop-j.invariant.1;
   bad = λ h. sym c.row_of_kind.ensures
-      ∙ not-true _ c.if-not-row_of_kind.true;
+      ∙ c.if-not-row_of_kind.true;
 }
 
 pub overflow_add-j : goal.overflow_add-j
@@ -45,7 +45,7 @@ pub loop-j-preserved : goal.loop-j-preserved
 loop-j-preserved c = let a = c.args in (
   omega arith,
   below_more (λ (r : ℕ). kind_at (width_of a.large) (source a.offsets.now a.bytes.now a.nulls.now a.mapped)
-      a.kind r ≡ true) _ c.loop-j.invariant.1 (sym c.row_of_kind.ensures ∙ not-false _ c.if-not-row_of_kind.false),
+      a.kind r ≡ true) _ c.loop-j.invariant.1 (sym c.row_of_kind.ensures ∙ c.if-not-row_of_kind.false),
 )
 
 pub returns : goal.returns

@@ -24,13 +24,13 @@ returns-then-not-cut c =
     let a = c.args in refused-cut (width_of a.large) (source a.offsets.now a.bytes.now a.nulls.now a.mapped) a.kind
     (lent a.newviews.now a.newbytes.now a.newstarts.now a.newlens.now a.newnulls.now) _
     (ap (λ (n : ℕ). n - 1) c.count-n.ensures.0) (sym c.map_short.ensures
-    ∙ c.if-map_short.false) (rw c.cut.ensures at c.if-not-cut.true)
+    ∙ c.if-map_short.false) (rw c.cut.ensures at c.if-not-cut.true-raw)
 
 pub good_rows-requires : goal.good_rows-requires
 good_rows-requires c =
     let a = c.args in let e = c.count-n.ensures in
     source_in (width_of a.large) (source a.offsets.now a.bytes.now a.nulls.now a.mapped) _ (omega arith) (omega arith)
-    (sym c.map_short.ensures ∙ c.if-map_short.false) (sym c.cut.ensures ∙ not-false _ c.if-not-cut.false)
+    (sym c.map_short.ensures ∙ c.if-map_short.false) (sym c.cut.ensures ∙ c.if-not-cut.false)
 
 pub returns-then-good_rows-rows : goal.returns-then-good_rows-rows
 returns-then-good_rows-rows c =
@@ -38,7 +38,7 @@ returns-then-good_rows-rows c =
     (lent a.newviews.now a.newbytes.now a.newstarts.now a.newlens.now a.newnulls.now) _
     (ap (λ (n : ℕ). n - 1) c.count-n.ensures.0)
     (sym c.map_short.ensures ∙ c.if-map_short.false)
-    (rw c.cut.ensures at c.if-not-cut.false) _ c.good_rows.ensures c.if-good_rows-rows.true
+    (rw c.cut.ensures at c.if-not-cut.false-raw) _ c.good_rows.ensures c.if-good_rows-rows.true
 
 pub returns : goal.returns
 returns c =
@@ -46,4 +46,4 @@ returns c =
     (lent a.newviews.now a.newbytes.now a.newstarts.now a.newlens.now a.newnulls.now) _
     (ap (λ (n : ℕ). n - 1) c.count-n.ensures.0) (sym c.map_short.ensures
     ∙ c.if-map_short.false) (rw c.cut.ensures at
-    c.if-not-cut.false) _ c.good_rows.ensures (omega arith) _ c.why_rooms.ensures
+    c.if-not-cut.false-raw) _ c.good_rows.ensures (omega arith) _ c.why_rooms.ensures

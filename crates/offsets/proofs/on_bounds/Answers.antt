@@ -29,7 +29,7 @@ loop-j-preserved c = let a = c.args in (
   omega arith,
   below_more (λ (i : ℕ). Begins a.bytes.now (offset_at (width_of a.large) a.offsets.now i)) _
       c.loop-j.invariant.1 (subst (Begins a.bytes.now) c.offset_at.ensures
-      (c.begins.ensures (not-false _ c.if-not-begins.false))),
+      (c.begins.ensures (c.if-not-begins.false))),
 )
 
 pub returns : goal.returns

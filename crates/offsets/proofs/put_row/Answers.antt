@@ -9,7 +9,7 @@ use Rattle.offsets.proofs.put_row.Goals as goal
 
 pub returns-then-not-valid_at : goal.returns-then-not-valid_at
 returns-then-not-valid_at c = view-null _ _ _ _ _ _ _ _ (sym c.valid_at.ensures
-    ∙ not-true _ c.if-not-valid_at.true) c.zero_view.ensures
+    ∙ c.if-not-valid_at.true) c.zero_view.ensures
 
 pub put_view-requires : goal.put_view-requires
 put_view-requires c = let a = c.args in
@@ -18,5 +18,5 @@ put_view-requires c = let a = c.args in
 
 pub returns : goal.returns
 returns c = view-valid _ _ _ _ _ _ _ _ _ _ (sym c.valid_at.ensures
-    ∙ not-false _ c.if-not-valid_at.false) c.value_part-value.ensures
+    ∙ c.if-not-valid_at.false) c.value_part-value.ensures
     c.offset_at-a.ensures c.put_view.ensures

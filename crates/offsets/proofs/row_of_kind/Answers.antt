@@ -5,8 +5,8 @@ use borrow.Author.Rules.{rules}
 use Rattle.offsets.proofs.row_of_kind.Goals as goal
 
 pub returns-then-not-valid_at : goal.returns-then-not-valid_at
-returns-then-not-valid_at c = let a = c.args in kind-null _ _ _ _ _ _ _ (sym c.valid_at.ensures ∙ not-true _ c.if-not-valid_at.true)
+returns-then-not-valid_at c = let a = c.args in kind-null _ _ _ _ _ _ _ (sym c.valid_at.ensures ∙ c.if-not-valid_at.true)
 
 pub returns : goal.returns
-returns c = kind-valid _ _ _ _ _ _ _ _ _ (sym c.valid_at.ensures ∙ not-false _ c.if-not-valid_at.false)
+returns c = kind-valid _ _ _ _ _ _ _ _ _ (sym c.valid_at.ensures ∙ c.if-not-valid_at.false)
     c.value_part.ensures c.of_kind.ensures

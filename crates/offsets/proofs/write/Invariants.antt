@@ -9,8 +9,8 @@ use borrow.Author.Rules.{rules}
 use Rattle.offsets.proofs.write.Given as goal
 
 abbrev pub invariant-loop-j : goal.invariant-loop-j
-invariant-loop-j l = (l.j ≤ l.mapped) × (length l.initial.j ≡ length l.initial.newviews)
-    × (l.initial.j ≡ put_rows l.initial.newviews (row_view_of (width_of l.offsets) (source l.newviews l.large l.bytes l.nulls)) l.j)
+invariant-loop-j l = (l.j ≤ l.rows) × (length l.newviews ≡ length l.initial.newviews)
+    × (l.newviews ≡ put_rows l.initial.newviews (row_view_of (width_of l.large) (source l.offsets l.bytes l.nulls l.mapped)) l.j)
 
 abbrev pub decreases-loop-j : goal.decreases-loop-j
-decreases-loop-j l = l.mapped - l.j
+decreases-loop-j l = l.rows - l.j

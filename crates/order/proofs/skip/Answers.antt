@@ -18,5 +18,5 @@ loop-i-preserved c =
       search rules,
       search rules,
       agree-next s.a.now s.b.now l.i s.m l.invariant.4 (c.same_run.ensures.0
-          (not-false _ c.if-not-same_run.false)),
+          (c.if-not-same_run.false)),
     )

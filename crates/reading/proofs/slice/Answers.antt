@@ -11,14 +11,14 @@ use Rattle.reading.proofs.slice.Goals as goal
 
 pub overflow_add-result : goal.overflow_add-result
 overflow_add-result c =
-    let g = run-known _ _ _ _ (ap is_accepted (sym c.why_run-why.ensures ∙ c.enum_told-1.given.1)) in
+    let g = run-known _ _ _ _ (ap is_accepted (sym c.why_run-why.ensures ∙ c.in-Accepted.is)) in
     let f = fits_gives _ _ _ _ _ _ g.fit in
     omega (arith, row-limit-small)
 
 pub returns-in-Accepted : goal.returns-in-Accepted
 unfolding slice
-returns-in-Accepted c = sliced-is _ _ (sym c.why_run-why.ensures ∙ c.enum_told-1.given.1)
+returns-in-Accepted c = sliced-is _ _ (sym c.why_run-why.ensures ∙ c.in-Accepted.is)
 
 pub returns-in-Refused : goal.returns-in-Refused
 unfolding slice
-returns-in-Refused c = sliced-no _ _ _ (sym c.why_run-why.ensures ∙ c.why-1.given.1)
+returns-in-Refused c = sliced-no _ _ _ (sym c.why_run-why.ensures ∙ c.in-Refused.is)

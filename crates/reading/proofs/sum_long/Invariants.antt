@@ -12,7 +12,7 @@ use Rattle.reading.specs.TotalLaws.{rows_only, buffer-none, buffer-more}
 use Rattle.reading.proofs.sum_long.Given as goal
 
 abbrev pub invariant-loop-k : goal.invariant-loop-k
-invariant-loop-k l = (l.k ≤ l.rows) × ((l.initial.k ≡ buffer_bytes (buffers l.views [] [] []) (rows_only false l.first) l.k) × (l.initial.k ≤ 4294967296 * l.k))
+invariant-loop-k l = (l.k ≤ l.rows) × ((l.sum ≡ buffer_bytes (buffers l.views [] [] []) (rows_only false l.first) l.k) × (l.sum ≤ 4294967296 * l.k))
 
 abbrev pub decreases-loop-k : goal.decreases-loop-k
 decreases-loop-k l = l.rows - l.k

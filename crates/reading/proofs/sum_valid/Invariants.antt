@@ -11,8 +11,8 @@ use Rattle.reading.specs.TotalLaws.{rows_only, bytes-none, bytes-more}
 use Rattle.reading.proofs.sum_valid.Given as goal
 
 abbrev pub invariant-loop-k : goal.invariant-loop-k
-invariant-loop-k l = (l.k ≤ l.rows) × ((l.initial.k ≡ bytes_len (buffers l.views [] [] l.nulls) (rows_only l.mapped l.first) l.k)
-    × (l.initial.k ≤ 4294967296 * l.k))
+invariant-loop-k l = (l.k ≤ l.rows) × ((l.sum ≡ bytes_len (buffers l.views [] [] l.nulls) (rows_only l.mapped l.first) l.k)
+    × (l.sum ≤ 4294967296 * l.k))
 
 abbrev pub decreases-loop-k : goal.decreases-loop-k
 decreases-loop-k l = l.rows - l.k

@@ -8,13 +8,13 @@ use Rattle.reading.specs.TotalLaws.{fits-held, bytes-bare}
 use Rattle.reading.proofs.total_bytes_len.Goals as goal
 
 pub sum_valid-requires : goal.sum_valid-requires
-sum_valid-requires c = fits-held _ _ _ _ _ _ (column-known _ _ (ap is_accepted (sym c.why_column-why.ensures ∙ c.enum_told-1.given.1)))
+sum_valid-requires c = fits-held _ _ _ _ _ _ (column-known _ _ (ap is_accepted (sym c.why_column-why.ensures ∙ c.in-Accepted.is)))
 
 pub returns-in-Accepted : goal.returns-in-Accepted
 unfolding total_bytes_len
-returns-in-Accepted c = number_is_lem _ _ _ (sym c.why_column-why.ensures ∙ c.enum_told-1.given.1) (c.sum_valid.ensures
+returns-in-Accepted c = number_is_lem _ _ _ (sym c.why_column-why.ensures ∙ c.in-Accepted.is) (c.sum_valid.ensures
     ∙ bytes-bare _ _ _ _ _ _ _)
 
 pub returns-in-Refused : goal.returns-in-Refused
 unfolding total_bytes_len
-returns-in-Refused c = number-no _ _ _ (sym c.why_column-why.ensures ∙ c.why-1.given.1)
+returns-in-Refused c = number-no _ _ _ (sym c.why_column-why.ensures ∙ c.in-Refused.is)

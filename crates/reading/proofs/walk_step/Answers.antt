@@ -10,14 +10,14 @@ use Rattle.reading.specs.ReadingLaws.{value-readable, step_stays, step-goes}
 use Rattle.reading.proofs.walk_step.Goals as goal
 
 pub returns-then-not-is_accepted : goal.returns-then-not-is_accepted
-returns-then-not-is_accepted c = step_stays _ _ _ _ c.why_value-why.ensures (sym c.is_accepted.ensures ∙ not-true _ c.if-not-is_accepted.true)
+returns-then-not-is_accepted c = step_stays _ _ _ _ c.why_value-why.ensures (sym c.is_accepted.ensures ∙ c.if-not-is_accepted.true)
 
 pub overflow_add-result : goal.overflow_add-result
 overflow_add-result c =
     let g = value-readable _ _ _
-    (ap is_accepted (sym c.why_value-why.ensures) ∙ sym c.is_accepted.ensures ∙ not-false _ c.if-not-is_accepted.false) in
+    (ap is_accepted (sym c.why_value-why.ensures) ∙ sym c.is_accepted.ensures ∙ c.if-not-is_accepted.false) in
     let f = fits_gives _ _ _ _ _ _ g.fit in
     omega (arith, row-limit-small)
 
 pub returns : goal.returns
-returns c = step-goes _ _ _ _ c.why_value-why.ensures (sym c.is_accepted.ensures ∙ not-false _ c.if-not-is_accepted.false)
+returns c = step-goes _ _ _ _ c.why_value-why.ensures (sym c.is_accepted.ensures ∙ c.if-not-is_accepted.false)

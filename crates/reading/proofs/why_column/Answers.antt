@@ -6,7 +6,7 @@ use Rattle.reading.specs.ReadingLaws.{column-unfit, column-fit}
 use Rattle.reading.proofs.why_column.Goals as goal
 
 pub returns-then-not-fits : goal.returns-then-not-fits
-returns-then-not-fits c = column-unfit _ _ (sym c.fits2.ensures ∙ not-true _ c.if-not-fits.true)
+returns-then-not-fits c = column-unfit _ _ (sym c.fits.ensures ∙ c.if-not-fits.true)
 
 pub returns : goal.returns
-returns c = column-fit _ _ (sym c.fits2.ensures ∙ not-false _ c.if-not-fits.false)
+returns c = column-fit _ _ (sym c.fits.ensures ∙ c.if-not-fits.false)

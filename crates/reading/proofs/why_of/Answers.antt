@@ -3,7 +3,7 @@ use borrow.Author.Rules.{rules}
 use Rattle.reading.proofs.why_of.Goals as goal
 
 pub returns-in-At : goal.returns-in-At
-returns-in-At c = rw c.enum_told-1.given.1
+returns-in-At c = rw c.in-At.is
 
 pub returns-in-Refused : goal.returns-in-Refused
-returns-in-Refused c = rw c.l-1.given.1
+returns-in-Refused c = rw c.in-Refused.is

@@ -6,7 +6,7 @@ use lib.ListN.{length}
 use Rattle.record_exports.proofs.keep.Given as goal
 
 abbrev pub invariant-loop-k : goal.invariant-loop-k
-invariant-loop-k l = (l.k ≤ length l.initial.to) × (length l.initial.k ≡ length l.initial.to)
+invariant-loop-k l = (l.k ≤ length l.initial.to) × (length l.to ≡ length l.initial.to)
 
 abbrev pub decreases-loop-k : goal.decreases-loop-k
 decreases-loop-k l = length l.initial.to - l.k

@@ -12,11 +12,11 @@ use borrow.Author.Rules.{rules}
 use Rattle.shelf.proofs.add_lines.Given as goal
 
 abbrev pub invariant-loop-at : goal.invariant-loop-at
-invariant-loop-at l = (l.at ≤ length l.initial.lens)
-    × (length l.nulls ≡ length l.initial.views) × (length l.initial.places ≡ length l.views) × (length l.places ≡ length l.initial.bytes) × (length l.input ≡ length l.bytes)
-    × (length l.initial.s ≡ length l.initial.starts) × (length l.s ≡ length l.starts)
-    × (added_all (lines (drop l.at l.initial.lens)) (held l.initial.at l.nulls l.initial.places l.places l.input l.initial.s l.s) ≡ added_all (lines l.initial.lens) (held l.lens l.initial.views l.views l.initial.bytes l.bytes
-    l.initial.starts l.starts))
+invariant-loop-at l = (l.at ≤ length l.input)
+    × (length l.views ≡ length l.initial.views) × (length l.bytes ≡ length l.initial.bytes) × (length l.starts ≡ length l.initial.starts) × (length l.lens ≡ length l.initial.lens)
+    × (length l.nulls ≡ length l.initial.nulls) × (length l.places ≡ length l.initial.places)
+    × (added_all (lines (drop l.at l.input)) (held l.s l.views l.bytes l.starts l.lens l.nulls l.places) ≡ added_all (lines l.input) (held l.initial.s l.initial.views l.initial.bytes l.initial.starts l.initial.lens
+    l.initial.nulls l.initial.places))
 
 abbrev pub decreases-loop-at : goal.decreases-loop-at
-decreases-loop-at l = length l.initial.lens - l.at
+decreases-loop-at l = length l.input - l.at

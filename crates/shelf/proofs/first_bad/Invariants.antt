@@ -8,7 +8,7 @@ use borrow.Author.Rules.{rules}
 use Rattle.shelf.proofs.first_bad.Given as goal
 
 abbrev pub invariant-loop-at : goal.invariant-loop-at
-invariant-loop-at l = (l.initial.n ≤ length l.s) × (l.n ≤ l.initial.n) × (first_bad_line l.n (lines (drop l.initial.n l.s)) ≡ first_bad_line 0 (lines l.s))
+invariant-loop-at l = (l.at ≤ length l.s) × (l.n ≤ l.at) × (first_bad_line l.n (lines (drop l.at l.s)) ≡ first_bad_line 0 (lines l.s))
 
 abbrev pub decreases-loop-at : goal.decreases-loop-at
-decreases-loop-at l = length l.s - l.initial.n
+decreases-loop-at l = length l.s - l.at

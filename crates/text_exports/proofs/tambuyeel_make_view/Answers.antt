@@ -19,7 +19,7 @@ returns-in-Accepted c =
     let x = a.x.now in
     let m = c.make_view-made.ensures in
     let why : view_why x ≡ Accepted = sym (made-why x a.block a.offset) ∙ sym (ap (λ (r : Made). r.why) m)
-    ∙ c.enum_told-1.given.1 in
+    ∙ c.in-Accepted.is in
     let view = ap (λ (r : Made). r.view) m ∙ made-view x a.block a.offset why in
     let len : length a.view.now ≡ 16 = search rules in
     rw why (refl, c.copy16.ensures ∙ rw view (view-whole a.view.now (make_view x a.block a.offset) len (length-make x a.block a.offset)))
@@ -29,5 +29,5 @@ returns-in-Refused c =
     let a = c.args in
     let x = a.x.now in
     let m = c.make_view-made.ensures in
-    let why = sym (made-why x a.block a.offset) ∙ sym (ap (λ (r : Made). r.why) m) ∙ c.why-1.given.1 in
+    let why = sym (made-why x a.block a.offset) ∙ sym (ap (λ (r : Made). r.why) m) ∙ c.in-Refused.is in
     rw why (c.number.ensures, refl)

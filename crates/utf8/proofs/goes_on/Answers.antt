@@ -15,20 +15,20 @@ returns-then-n-eq2 c =
 pub returns-then-not-in_range : goal.returns-then-not-in_range
 returns-then-not-in_range c =
     let a = c.args in
-    let third = sym c.in_range.ensures ∙ not-true _ c.if-not-in_range.true in
+    let third = sym c.in_range.ensures ∙ c.if-not-in_range.true in
     sym (nexts-on a.s.now (a.i + 2) (a.i + a.n) (omega arith) (omega arith) ∙ rw third)
 
 pub returns-then-n-eq3 : goal.returns-then-n-eq3
 returns-then-n-eq3 c =
     let a = c.args in
-    let third = sym c.in_range.ensures ∙ not-false _ c.if-not-in_range.false in
+    let third = sym c.in_range.ensures ∙ c.if-not-in_range.false in
     sym (nexts-last a.s.now (a.i + 2) (a.i + a.n) (omega arith) (omega arith) ∙ third)
 
 pub returns : goal.returns
 returns c =
     let a = c.args in
     let x = a.s.now in
-    let third = sym c.in_range.ensures ∙ not-false _ c.if-not-in_range.false in
+    let third = sym c.in_range.ensures ∙ c.if-not-in_range.false in
     let at : a.i + 2 + 1 ≡ a.i + 3 = omega arith in
     let last = rw at at (nexts-last x (a.i + 2 + 1) (a.i + a.n) (omega arith) (omega arith)) in
     c.in_range-2.ensures ∙ sym (nexts-on x (a.i + 2) (a.i + a.n) (omega arith) (omega arith) ∙ rw (third, at, last))

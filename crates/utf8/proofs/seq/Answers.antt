@@ -11,31 +11,31 @@ pub returns-in-One : goal.returns-in-One
 unfolding tails led_by in_ranges
 returns-in-One c =
     let a = c.args in
-    (sym (front_at a.s.now a.i (omega arith) (c.lead_of-l.ensures ∙ ap tails c.enum_told-1.given.1)), omega arith)
+    (sym (front_at a.s.now a.i (omega arith) (c.lead_of-l.ensures ∙ ap tails c.in-One.is)), omega arith)
 
 pub returns-in-Two : goal.returns-in-Two
 unfolding tails
 returns-in-Two c =
     let a = c.args in
-    let led = front_at a.s.now a.i (omega arith) (c.lead_of-l.ensures ∙ ap tails c.l-1.given.1) in
+    let led = front_at a.s.now a.i (omega arith) (c.lead_of-l.ensures ∙ ap tails c.in-Two.is) in
     (c.more.ensures.0 ∙ sym led, search rules)
 
 pub returns-in-Three : goal.returns-in-Three
 unfolding tails
 returns-in-Three c =
     let a = c.args in
-    let led = front_at a.s.now a.i (omega arith) (c.lead_of-l.ensures ∙ ap tails c.l-in-Three-1.given.1) in
+    let led = front_at a.s.now a.i (omega arith) (c.lead_of-l.ensures ∙ ap tails c.in-Three.is) in
     (c.more-in-Three.ensures.0 ∙ sym led, search rules)
 
 pub returns-in-Four : goal.returns-in-Four
 unfolding tails
 returns-in-Four c =
     let a = c.args in
-    let led = front_at a.s.now a.i (omega arith) (c.lead_of-l.ensures ∙ ap tails c.l-in-Four-1.given.1) in
+    let led = front_at a.s.now a.i (omega arith) (c.lead_of-l.ensures ∙ ap tails c.in-Four.is) in
     (c.more-in-Four.ensures.0 ∙ sym led, search rules)
 
 pub returns-in-Bad : goal.returns-in-Bad
 unfolding tails led_by in_ranges
 returns-in-Bad c =
     let a = c.args in
-    (sym (front_at a.s.now a.i (omega arith) (c.lead_of-l.ensures ∙ ap tails c.enum_told-in-Bad-1.given.1)), omega arith)
+    (sym (front_at a.s.now a.i (omega arith) (c.lead_of-l.ensures ∙ ap tails c.in-Bad.is)), omega arith)

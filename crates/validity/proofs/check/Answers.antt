@@ -15,23 +15,23 @@ use Rattle.validity.proofs.CheckLaws.{invalid-fit, invalid-row, invalid-block, v
 use Rattle.validity.proofs.check.Goals as goal
 
 pub returns-then-not-fits : goal.returns-then-not-fits
-returns-then-not-fits c = invalid-fit _ _ _ _ _ _ (rw c.fits2.ensures at c.if-not-fits.true)
+returns-then-not-fits c = invalid-fit _ _ _ _ _ _ (rw c.fits.ensures at c.if-not-fits.true-raw)
 
 pub loop-k-init : goal.loop-k-init
 loop-k-init c = (omega arith, λ r h. absurd (omega arith))
 
 pub overflow_add-first : goal.overflow_add-first
-overflow_add-first c = let g = fits_gives _ _ _ _ _ _ (not-false _ (rw c.fits2.ensures at c.if-not-fits.false)) in
+overflow_add-first c = let g = fits_gives _ _ _ _ _ _ (not-false _ (rw c.fits.ensures at c.if-not-fits.false-raw)) in
     omega (arith, row-limit-small)
 
 pub is_true_at-requires : goal.is_true_at-requires
-is_true_at-requires c = fits-row _ _ _ _ _ _ _ (not-false _ (rw c.fits2.ensures at c.if-not-fits.false)) (omega arith)
+is_true_at-requires c = fits-row _ _ _ _ _ _ _ (not-false _ (rw c.fits.ensures at c.if-not-fits.false-raw)) (omega arith)
 
 pub returns-then-not-is_true_at : goal.returns-then-not-is_true_at
 returns-then-not-is_true_at c =
     let s = c.args in invalid-row s.views.now s.bytes.now s.starts.now s.lens.now s.nulls.now s.c
-    (rw c.fits2.ensures at c.if-not-fits.false) _ (omega arith)
-    c.loop-k.invariant.1 (sym c.is_true_at.ensures ∙ not-true _ c.if-not-is_true_at.true)
+    (rw c.fits.ensures at c.if-not-fits.false-raw) _ (omega arith)
+    c.loop-k.invariant.1 (sym c.is_true_at.ensures ∙ c.if-not-is_true_at.true)
 
 pub overflow_add-k : goal.overflow_add-k
 overflow_add-k c = omega arith
@@ -43,20 +43,20 @@ pub loop-k-preserved : goal.loop-k-preserved
 loop-k-preserved c = let s = c.args in (
   omega arith,
   below_more (λ (r : ℕ). true_at s.c.kind (bare s.views.now s.bytes.now s.starts.now s.lens.now) s.c r
-      ≡ true) _ c.loop-k.invariant.1 (sym c.is_true_at.ensures ∙ not-false _ c.if-not-is_true_at.false),
+      ≡ true) _ c.loop-k.invariant.1 (sym c.is_true_at.ensures ∙ c.if-not-is_true_at.false),
 )
 
 pub all_in_data-requires : goal.all_in_data-requires
-all_in_data-requires c = fits-listed _ _ _ _ _ _ (not-false _ (rw c.fits2.ensures at c.if-not-fits.false))
+all_in_data-requires c = fits-listed _ _ _ _ _ _ (not-false _ (rw c.fits.ensures at c.if-not-fits.false-raw))
 
 pub returns-then-not-all_in_data : goal.returns-then-not-all_in_data
 returns-then-not-all_in_data c =
     let s = c.args in invalid-block s.views.now s.bytes.now s.starts.now s.lens.now s.nulls.now s.c
-    (rw c.fits2.ensures at c.if-not-fits.false)
-    (λ r h. c.loop-k.invariant.1 r (omega arith)) (rw c.all_in_data.ensures at c.if-not-all_in_data.true)
+    (rw c.fits.ensures at c.if-not-fits.false-raw)
+    (λ r h. c.loop-k.invariant.1 r (omega arith)) (rw c.all_in_data.ensures at c.if-not-all_in_data.true-raw)
 
 pub returns : goal.returns
 returns c =
     let s = c.args in valid s.views.now s.bytes.now s.starts.now s.lens.now s.nulls.now s.c
-    (rw c.fits2.ensures at c.if-not-fits.false)
-    (λ r h. c.loop-k.invariant.1 r (omega arith)) (rw c.all_in_data.ensures at c.if-not-all_in_data.false)
+    (rw c.fits.ensures at c.if-not-fits.false-raw)
+    (λ r h. c.loop-k.invariant.1 r (omega arith)) (rw c.all_in_data.ensures at c.if-not-all_in_data.false-raw)

@@ -58,7 +58,7 @@ returns-then-not-is_accepted c =
     c.find-f.ensures c.pre.1 _
     c.is_row.ensures c.if-is_row.false _ _ _
     c.blocks_room.ensures c.bytes_room.ensures
-    c.why_lay-w.ensures) (sym c.is_accepted.ensures ∙ not-true _ c.if-not-is_accepted.true)
+    c.why_lay-w.ensures) (sym c.is_accepted.ensures ∙ c.if-not-is_accepted.true)
 
 pub enter-requires : goal.enter-requires
 enter-requires c =
@@ -84,7 +84,7 @@ lay-requires c =
     let a = c.args in
     let f = fits_gives a.s a.views.now a.bytes.now a.starts.now a.lens.now a.nulls.now a.places.now c.requires.0.fit in
     let u = ap used c.make_room-t.ensures.0 ∙ room-used a.s (length a.x.now) in
-    let k = lay-room _ _ _ _ (ap is_accepted (sym c.why_lay-w.ensures) ∙ sym c.is_accepted.ensures ∙ not-false _ c.if-not-is_accepted.false) in
+    let k = lay-room _ _ _ _ (ap is_accepted (sym c.why_lay-w.ensures) ∙ sym c.is_accepted.ensures ∙ c.if-not-is_accepted.false) in
     omega (arith, u, k, c.bytes_room.ensures, bytes-room-le (length a.bytes.now))
 
 pub overflow_mul-rows : goal.overflow_mul-rows
@@ -143,6 +143,6 @@ returns c =
     let f = fits_gives a.s a.views.now a.bytes.now a.starts.now a.lens.now a.nulls.now a.places.now c.requires.0.fit in
     does-lay _ _ _ _ _ _ _ _ _ c.requires.0.fit c.find-f.ensures c.requires.1 _ c.is_row.ensures c.if-is_row.false _ _ _
     c.blocks_room.ensures c.bytes_room.ensures c.why_lay-w.ensures _ (sym c.is_accepted.ensures
-    ∙ not-false _ c.if-not-is_accepted.false) f.starts f.lens c.make_room-t.ensures.0 c.stored-u.ensures
+    ∙ c.if-not-is_accepted.false) f.starts f.lens c.make_room-t.ensures.0 c.stored-u.ensures
     c.long_view.ensures c.lay.ensures c.make_room-t.ensures.1
     c.make_room-t.ensures.2 c.put_bit-2.ensures c.enter.ensures

@@ -11,8 +11,8 @@ use borrow.Author.Rules.{rules}
 use Rattle.values.proofs.copy_rows.Given as goal
 
 abbrev pub invariant-loop-k : goal.invariant-loop-k
-invariant-loop-k l = (l.k ≤ l.to) × (length l.initial.k ≡ length l.initial.views) × (l.p ≡ word_at l.initial.views (16 * l.views) 8)
-    × (l.lo ≡ word_at l.initial.views (16 * l.views + 8) 8) × (l.initial.k ≡ put_copies l.initial.views l.from (view_at l.initial.views l.views) l.k)
+invariant-loop-k l = (l.k ≤ l.n) × (length l.views ≡ length l.initial.views) × (l.lo ≡ word_at l.initial.views (16 * l.from) 8)
+    × (l.hi ≡ word_at l.initial.views (16 * l.from + 8) 8) × (l.views ≡ put_copies l.initial.views l.to (view_at l.initial.views l.from) l.k)
 
 abbrev pub decreases-loop-k : goal.decreases-loop-k
-decreases-loop-k l = l.to - l.k
+decreases-loop-k l = l.n - l.k

@@ -11,10 +11,10 @@ pub overflow_cast-places : goal.overflow_cast-places
 overflow_cast-places c = omega (arith, row-limit-small)
 
 pub offset_bounds-places-p : goal.offset_bounds-places-p
-offset_bounds-places-p c = omega (arith, c.requires.1 _ c.f-1.given.1)
+offset_bounds-places-p c = omega (arith, c.requires.1 _ c.in-Free.is)
 
 pub bounds-places-p : goal.bounds-places-p
-bounds-places-p c = c.requires.1 _ c.f-1.given.1
+bounds-places-p c = c.requires.1 _ c.in-Free.is
 
 pub returns-in-Free : goal.returns-in-Free
-returns-in-Free c = rw (c.f-1.given.1, add-one)
+returns-in-Free c = rw (c.in-Free.is, add-one)

@@ -13,11 +13,11 @@ use borrow.Author.Rules.{rules}
 use Rattle.values.proofs.find.Goals as goal
 
 pub returns-then-not-does_merge : goal.returns-then-not-does_merge
-returns-then-not-does_merge c = found-off _ _ _ _ _ c.does_merge.ensures (not-true _ c.if-not-does_merge.true)
+returns-then-not-does_merge c = found-off _ _ _ _ _ c.does_merge.ensures (c.if-not-does_merge.true)
 
 pub returns-then-n-eq0 : goal.returns-then-n-eq0
 unfolding search_from
-returns-then-n-eq0 c = found-on _ _ _ _ _ _ c.does_merge.ensures (not-false _ c.if-not-does_merge.false) (seek-end _ _ _ _ c.if-n-eq0.true)
+returns-then-n-eq0 c = found-on _ _ _ _ _ _ c.does_merge.ensures (c.if-not-does_merge.false) (seek-end _ _ _ _ c.if-n-eq0.true)
 
 pub loop-left-init : goal.loop-left-init
 unfolding search_from
@@ -28,12 +28,12 @@ overflow_cast-e c = omega (arith, c.type_inv.places c.loop-left.p)
 
 pub returns-then-e-eq0 : goal.returns-then-e-eq0
 returns-then-e-eq0 c = found-on _ _ _ _ _ _ c.does_merge.ensures
-    (not-false _ c.if-not-does_merge.false) (seek-empty _ _ _ _ c.loop-left-test.true
+    (c.if-not-does_merge.false) (seek-empty _ _ _ _ c.loop-left-test.true
     c.if-e-eq0.true ∙ sym c.loop-left.invariant.1)
 
 pub returns-then-shows_row : goal.returns-then-shows_row
 returns-then-shows_row c =
-    found-on _ _ _ _ _ _ c.does_merge.ensures (not-false _ c.if-not-does_merge.false)
+    found-on _ _ _ _ _ _ c.does_merge.ensures (c.if-not-does_merge.false)
     (seek_found _ _ _ _ c.loop-left-test.true c.if-e-eq0.false (sym c.shows_row.ensures
     ∙ c.if-shows_row.true) ∙ sym c.loop-left.invariant.1)
 
@@ -47,4 +47,4 @@ loop-left-preserved c = (
 
 pub returns : goal.returns
 returns c = found-on _ _ _ _ _ _ c.does_merge.ensures
-    (not-false _ c.if-not-does_merge.false) (seek-end _ _ _ _ (omega arith) ∙ sym c.loop-left.invariant.1)
+    (c.if-not-does_merge.false) (seek-end _ _ _ _ (omega arith) ∙ sym c.loop-left.invariant.1)

@@ -13,8 +13,8 @@ use borrow.Author.Rules.{rules}
 use Rattle.values.proofs.find.Given as goal
 
 abbrev pub invariant-loop-left : goal.invariant-loop-left
-invariant-loop-left l = (l.initial.left < length l.places)
-    × (search_from l.places (shows_row l.s (bare l.views l.bytes l.starts l.lens) l.x) (hash_of l.x) ≡ seek l.places (shows_row l.s (bare l.views l.bytes l.starts l.lens) l.x) l.initial.left l.left)
+invariant-loop-left l = (l.p < length l.places)
+    × (search_from l.places (shows_row l.s (bare l.views l.bytes l.starts l.lens) l.x) (hash_of l.x) ≡ seek l.places (shows_row l.s (bare l.views l.bytes l.starts l.lens) l.x) l.p l.left)
 
 abbrev pub decreases-loop-left : goal.decreases-loop-left
 decreases-loop-left l = l.left

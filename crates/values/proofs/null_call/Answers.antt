@@ -19,7 +19,7 @@ pub returns-then-not-is_accepted : goal.returns-then-not-is_accepted
 returns-then-not-is_accepted c = does-no _ _ _ _ _ _ _ _ _ _ (c.why_null-w.ensures
     ∙ null_is _ _ _ _ _ _ _ _ _ _ c.rows_room-room.ensures
     c.blocks_room.ensures c.bytes_room.ensures) (sym c.is_accepted.ensures
-    ∙ not-true _ c.if-not-is_accepted.true)
+    ∙ c.if-not-is_accepted.true)
 
 pub overflow_mul-rows : goal.overflow_mul-rows
 overflow_mul-rows c =
@@ -28,7 +28,7 @@ overflow_mul-rows c =
     (ap is_accepted (sym (c.why_null-w.ensures
     ∙ null_is _ _ _ _ _ _ _ _ _ _ c.rows_room-room.ensures
     c.blocks_room.ensures c.bytes_room.ensures))
-    ∙ (sym c.is_accepted.ensures ∙ not-false _ c.if-not-is_accepted.false)) in
+    ∙ (sym c.is_accepted.ensures ∙ c.if-not-is_accepted.false)) in
     omega (arith, f.room.rows, row-limit-small)
 
 pub zero_view-requires : goal.zero_view-requires
@@ -38,7 +38,7 @@ zero_view-requires c =
     (ap is_accepted (sym (c.why_null-w.ensures
     ∙ null_is _ _ _ _ _ _ _ _ _ _ c.rows_room-room.ensures
     c.blocks_room.ensures c.bytes_room.ensures))
-    ∙ (sym c.is_accepted.ensures ∙ not-false _ c.if-not-is_accepted.false)) in
+    ∙ (sym c.is_accepted.ensures ∙ c.if-not-is_accepted.false)) in
     omega (arith, f.room.views)
 
 pub put_bit-requires : goal.put_bit-requires
@@ -48,7 +48,7 @@ put_bit-requires c =
     (ap is_accepted (sym (c.why_null-w.ensures
     ∙ null_is _ _ _ _ _ _ _ _ _ _ c.rows_room-room.ensures c.blocks_room.ensures c.bytes_room.ensures))
     ∙ (sym c.is_accepted.ensures
-    ∙ not-false _ c.if-not-is_accepted.false)) in
+    ∙ c.if-not-is_accepted.false)) in
     omega (arith, f.room.bits)
 
 pub row_more-t-requires : goal.row_more-t-requires
@@ -56,13 +56,13 @@ row_more-t-requires c =
     let a = c.args in
     let f = null-fine a.s a.views.now a.bytes.now a.starts.now a.lens.now a.nulls.now a.places.now
     (ap is_accepted (sym (c.why_null-w.ensures ∙ null_is _ _ _ _ _ _ _ _ _ _ c.rows_room-room.ensures c.blocks_room.ensures
-    c.bytes_room.ensures)) ∙ (sym c.is_accepted.ensures ∙ not-false _ c.if-not-is_accepted.false)) in
+    c.bytes_room.ensures)) ∙ (sym c.is_accepted.ensures ∙ c.if-not-is_accepted.false)) in
     f.room.rows
 
 pub returns : goal.returns
 unfolding put_null add_row
 returns c =
     does-yes _ _ _ _ _ _ _ _ _ (is-accepted _ _ (c.why_null-w.ensures ∙ null_is _ _ _ _ _ _ _ _ _ _ c.rows_room-room.ensures
-    c.blocks_room.ensures c.bytes_room.ensures) (sym c.is_accepted.ensures ∙ not-false _ c.if-not-is_accepted.false))
+    c.blocks_room.ensures c.bytes_room.ensures) (sym c.is_accepted.ensures ∙ c.if-not-is_accepted.false))
     c.row_more-t.ensures c.zero_view.ensures refl (sym (starts-same _ _))
     (sym (lens_same _ _)) c.put_bit.ensures refl

@@ -22,7 +22,7 @@ returns-then-not-is_accepted c =
     let w = (c.why_first-w.ensures ∙ first-is a.s a.views.now a.bytes.now a.starts.now a.lens.now a.nulls.now
     a.places.now _ _ _ c.rows_room.ensures c.blocks_room.ensures
     c.bytes_room.ensures a.x.now 1) in
-    let no = sym c.is_accepted.ensures ∙ not-true _ c.if-not-is_accepted.true in
+    let no = sym c.is_accepted.ensures ∙ c.if-not-is_accepted.true in
     does-no _ _ _ _ _ _ _ _ _ _ (w ∙ value-no (held a.s a.views.now a.bytes.now a.starts.now a.lens.now a.nulls.now a.places.now) a.x.now 1 (ap is_accepted (sym w) ∙ no)) no
 
 pub add_one-requires : goal.add_one-requires
@@ -32,7 +32,7 @@ add_one-requires c =
     a.places.now _ _ _ c.rows_room.ensures c.blocks_room.ensures
     c.bytes_room.ensures a.x.now 1) in
     let y = ap is_accepted (sym w) ∙ (sym c.is_accepted.ensures ∙ not-false _
-    c.if-not-is_accepted.false) in
+    c.if-not-is_accepted.false-raw) in
     (judged (held a.s a.views.now a.bytes.now a.starts.now a.lens.now a.nulls.now a.places.now) a.x.now 1 y one-some).0
 
 pub returns : goal.returns
@@ -41,7 +41,7 @@ returns c =
     let w = (c.why_first-w.ensures ∙ first-is a.s a.views.now a.bytes.now a.starts.now a.lens.now a.nulls.now
     a.places.now _ _ _ c.rows_room.ensures c.blocks_room.ensures
     c.bytes_room.ensures a.x.now 1) in
-    let y = ap is_accepted (sym w) ∙ (sym c.is_accepted.ensures ∙ not-false _ c.if-not-is_accepted.false) in
+    let y = ap is_accepted (sym w) ∙ (sym c.is_accepted.ensures ∙ c.if-not-is_accepted.false) in
     does-once a.s a.views.now a.bytes.now a.starts.now a.lens.now a.nulls.now a.places.now a.x.now
     (value_on (held a.s a.views.now a.bytes.now a.starts.now a.lens.now a.nulls.now a.places.now) a.x.now 1 y one-some)
     c.add_one.ensures

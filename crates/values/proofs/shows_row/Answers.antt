@@ -36,7 +36,7 @@ returns-then-not-in_data c = shows-no-data _ _ _ _ _ _ _ c.requires.0 _ _ c.if-s
       arith,
       c.requires.1,
     )) _ _ (omega arith) c.at_or-start.ensures c.at_or-size.ensures _ c.in_data.ensures
-    (not-true _ c.if-not-in_data.true)
+    (c.if-not-in_data.true)
 
 pub returns-then-size-o : goal.returns-then-size-o
 returns-then-size-o c = shows-over _ _ _ _ _ _ _ c.requires.0 _ _
@@ -47,17 +47,17 @@ returns-then-size-o c = shows-over _ _ _ _ _ _ _ c.requires.0 _ _
       arith,
       c.requires.1,
     )) _ _ (omega arith) c.at_or-start.ensures
-    c.at_or-size.ensures _ c.in_data.ensures (not-false _ c.if-not-in_data.false)
+    c.at_or-size.ensures _ c.in_data.ensures (c.if-not-in_data.false)
     _ c.view_offset-o.ensures.0 c.if-size-o.true
 
 pub overflow_add-a : goal.overflow_add-a
-overflow_add-a c = omega (arith, byte-limit-small, in-data-gives _ _ _ (sym c.in_data.ensures ∙ not-false _ c.if-not-in_data.false))
+overflow_add-a c = omega (arith, byte-limit-small, in-data-gives _ _ _ (sym c.in_data.ensures ∙ c.if-not-in_data.false))
 
 pub overflow_add-e : goal.overflow_add-e
-overflow_add-e c = omega (arith, byte-limit-small, in-data-gives _ _ _ (sym c.in_data.ensures ∙ not-false _ c.if-not-in_data.false))
+overflow_add-e c = omega (arith, byte-limit-small, in-data-gives _ _ _ (sym c.in_data.ensures ∙ c.if-not-in_data.false))
 
 pub slice_bounds-same-end : goal.slice_bounds-same-end
-slice_bounds-same-end c = omega (arith, in-data-gives _ _ _ (sym c.in_data.ensures ∙ not-false _ c.if-not-in_data.false))
+slice_bounds-same-end c = omega (arith, in-data-gives _ _ _ (sym c.in_data.ensures ∙ c.if-not-in_data.false))
 
 pub returns : goal.returns
 returns c = shows-here _ _ _ _ _ _ _ c.requires.0 _ _
@@ -69,5 +69,5 @@ returns c = shows-here _ _ _ _ _ _ _ c.requires.0 _ _
       c.requires.1,
     )) _ _ (omega arith) c.at_or-start.ensures
     c.at_or-size.ensures _ c.in_data.ensures
-    (not-false _ c.if-not-in_data.false) _ c.view_offset-o.ensures.0 _
+    (c.if-not-in_data.false) _ c.view_offset-o.ensures.0 _
     c.if-size-o.false c.same.ensures

@@ -23,8 +23,8 @@ returns-then-not-is_accepted c =
     a.nulls.now a.places.now _ _ _ c.rows_room-room.ensures
     c.blocks_room.ensures c.bytes_room.ensures a.x.now a.n) in
     does-no _ _ _ _ _ _ _ _ _ _ (w ∙ value-no (held a.s a.views.now a.bytes.now a.starts.now a.lens.now a.nulls.now
-    a.places.now) a.x.now a.n (ap is_accepted (sym w) ∙ (sym c.is_accepted.ensures ∙ not-true _ c.if-not-is_accepted.true)))
-    (sym c.is_accepted.ensures ∙ not-true _ c.if-not-is_accepted.true)
+    a.places.now) a.x.now a.n (ap is_accepted (sym w) ∙ (sym c.is_accepted.ensures ∙ c.if-not-is_accepted.true)))
+    (sym c.is_accepted.ensures ∙ c.if-not-is_accepted.true)
 
 pub returns-then-n-eq0 : goal.returns-then-n-eq0
 returns-then-n-eq0 c =
@@ -32,7 +32,7 @@ returns-then-n-eq0 c =
     let w = (c.why_first-w.ensures ∙ first-is a.s a.views.now a.bytes.now a.starts.now a.lens.now
     a.nulls.now a.places.now _ _ _ c.rows_room-room.ensures
     c.blocks_room.ensures c.bytes_room.ensures a.x.now a.n) in
-    let y = ap is_accepted (sym w) ∙ (sym c.is_accepted.ensures ∙ not-false _ c.if-not-is_accepted.false) in
+    let y = ap is_accepted (sym w) ∙ (sym c.is_accepted.ensures ∙ c.if-not-is_accepted.false) in
     does-put _ _ a.s a.views.now a.bytes.now a.starts.now a.lens.now a.nulls.now a.places.now
     (held a.s a.views.now a.bytes.now a.starts.now a.lens.now a.nulls.now a.places.now)
     (value_none (held a.s a.views.now a.bytes.now a.starts.now a.lens.now a.nulls.now a.places.now) a.x.now
@@ -44,7 +44,7 @@ add_one-r-requires c =
     let a = c.args in
     let w = (c.why_first-w.ensures ∙ first-is a.s a.views.now a.bytes.now a.starts.now a.lens.now a.nulls.now
     a.places.now _ _ _ c.rows_room-room.ensures c.blocks_room.ensures c.bytes_room.ensures a.x.now a.n) in
-    let y = ap is_accepted (sym w) ∙ (sym c.is_accepted.ensures ∙ not-false _ c.if-not-is_accepted.false) in
+    let y = ap is_accepted (sym w) ∙ (sym c.is_accepted.ensures ∙ c.if-not-is_accepted.false) in
     let j = judged (held a.s a.views.now a.bytes.now a.starts.now a.lens.now a.nulls.now a.places.now) a.x.now
     a.n y c.if-n-eq0.false in
     let m = room-many a.s a.views.now a.bytes.now a.starts.now a.lens.now a.nulls.now a.places.now a.n j.1 in
@@ -55,10 +55,10 @@ returns-then-not-is_accepted-2 c =
     let a = c.args in
     let w = (c.why_first-w.ensures ∙ first-is a.s a.views.now a.bytes.now a.starts.now a.lens.now a.nulls.now
     a.places.now _ _ _ c.rows_room-room.ensures c.blocks_room.ensures c.bytes_room.ensures a.x.now a.n) in
-    let y = ap is_accepted (sym w) ∙ (sym c.is_accepted.ensures ∙ not-false _ c.if-not-is_accepted.false) in
+    let y = ap is_accepted (sym w) ∙ (sym c.is_accepted.ensures ∙ c.if-not-is_accepted.false) in
     does_not a.s a.views.now a.bytes.now a.starts.now a.lens.now a.nulls.now a.places.now a.x.now a.n
     (value_on (held a.s a.views.now a.bytes.now a.starts.now a.lens.now a.nulls.now a.places.now) a.x.now
-    a.n y c.if-n-eq0.false) c.add_one-r.ensures (sym c.is_accepted-2.ensures ∙ not-true _ c.if-not-is_accepted-2.true)
+    a.n y c.if-n-eq0.false) c.add_one-r.ensures (sym c.is_accepted-2.ensures ∙ c.if-not-is_accepted-2.true)
 
 pub overflow_add-rows : goal.overflow_add-rows
 overflow_add-rows c =
@@ -70,7 +70,7 @@ overflow_add-rows c =
     c.bytes_room.ensures a.x.now a.n) in
     let y = ap is_accepted (sym w)
     ∙ (sym c.is_accepted.ensures
-    ∙ not-false _ c.if-not-is_accepted.false) in
+    ∙ c.if-not-is_accepted.false) in
     let j = judged (held a.s a.views.now a.bytes.now a.starts.now a.lens.now a.nulls.now a.places.now) a.x.now
     a.n y c.if-n-eq0.false in
     let m = room-many a.s a.views.now a.bytes.now a.starts.now a.lens.now a.nulls.now a.places.now a.n j.1 in
@@ -86,7 +86,7 @@ copy_rows-requires c =
     c.bytes_room.ensures a.x.now a.n) in
     let y = ap is_accepted (sym w)
     ∙ (sym c.is_accepted.ensures
-    ∙ not-false _ c.if-not-is_accepted.false) in
+    ∙ c.if-not-is_accepted.false) in
     let j = judged (held a.s a.views.now a.bytes.now a.starts.now a.lens.now a.nulls.now a.places.now) a.x.now
     a.n y c.if-n-eq0.false in
     let m = room-many a.s a.views.now a.bytes.now a.starts.now a.lens.now a.nulls.now a.places.now a.n j.1 in
@@ -109,7 +109,7 @@ overflow_add-rows-2 c =
     a.x.now a.n) in
     let y = ap is_accepted (sym w)
     ∙ (sym c.is_accepted.ensures
-    ∙ not-false _ c.if-not-is_accepted.false) in
+    ∙ c.if-not-is_accepted.false) in
     let j = judged (held a.s a.views.now a.bytes.now a.starts.now a.lens.now a.nulls.now a.places.now) a.x.now
     a.n y c.if-n-eq0.false in
     let m = room-many a.s a.views.now a.bytes.now a.starts.now a.lens.now a.nulls.now a.places.now a.n j.1 in
@@ -124,7 +124,7 @@ put_run-requires c =
     a.x.now a.n) in
     let y = ap is_accepted (sym w)
     ∙ (sym c.is_accepted.ensures
-    ∙ not-false _ c.if-not-is_accepted.false) in
+    ∙ c.if-not-is_accepted.false) in
     let j = judged (held a.s a.views.now a.bytes.now a.starts.now a.lens.now a.nulls.now a.places.now) a.x.now
     a.n y c.if-n-eq0.false in
     let m = room-many a.s a.views.now a.bytes.now a.starts.now a.lens.now a.nulls.now a.places.now a.n j.1 in
@@ -145,7 +145,7 @@ rows_more-u-requires c =
     c.rows_room-room.ensures
     c.blocks_room.ensures c.bytes_room.ensures a.x.now a.n) in
     let y = ap is_accepted (sym w)
-    ∙ (sym c.is_accepted.ensures ∙ not-false _ c.if-not-is_accepted.false) in
+    ∙ (sym c.is_accepted.ensures ∙ c.if-not-is_accepted.false) in
     let j = judged (held a.s a.views.now a.bytes.now a.starts.now a.lens.now a.nulls.now a.places.now) a.x.now
     a.n y c.if-n-eq0.false in
     let m = room-many a.s a.views.now a.bytes.now a.starts.now a.lens.now a.nulls.now a.places.now a.n j.1 in
@@ -154,7 +154,7 @@ rows_more-u-requires c =
     a.x.now a.n y c.if-n-eq0.false)
     c.add_one-r.ensures
     (sym c.is_accepted-2.ensures
-    ∙ not-false _ c.if-not-is_accepted-2.false) in
+    ∙ c.if-not-is_accepted-2.false) in
     omega (
       arith,
       m,
@@ -167,8 +167,8 @@ returns c =
     let a = c.args in
     let w = (c.why_first-w.ensures ∙ first-is a.s a.views.now a.bytes.now a.starts.now a.lens.now a.nulls.now
     a.places.now _ _ _ c.rows_room-room.ensures c.blocks_room.ensures c.bytes_room.ensures a.x.now a.n) in
-    let y = ap is_accepted (sym w) ∙ (sym c.is_accepted.ensures ∙ not-false _ c.if-not-is_accepted.false) in
+    let y = ap is_accepted (sym w) ∙ (sym c.is_accepted.ensures ∙ c.if-not-is_accepted.false) in
     does-many a.s a.views.now a.bytes.now a.starts.now a.lens.now a.nulls.now a.places.now a.x.now a.n
     (value_on (held a.s a.views.now a.bytes.now a.starts.now a.lens.now a.nulls.now a.places.now) a.x.now
-    a.n y c.if-n-eq0.false) c.add_one-r.ensures c.if-n-eq0.false (sym c.is_accepted-2.ensures ∙ not-false _ c.if-not-is_accepted-2.false)
+    a.n y c.if-n-eq0.false) c.add_one-r.ensures c.if-n-eq0.false (sym c.is_accepted-2.ensures ∙ c.if-not-is_accepted-2.false)
     c.rows_more-u.ensures c.copy_rows.ensures c.put_run.ensures

@@ -8,15 +8,15 @@ use borrow.Author.Rules.{rules}
 use Rattle.values.proofs.why_first.Goals as goal
 
 pub returns-then-not-state_fits : goal.returns-then-not-state_fits
-returns-then-not-state_fits c = refuse-yes _ _ _ _ (ap not (sym c.state_fits.ensures) ∙ c.if-not-state_fits.true) refl
+returns-then-not-state_fits c = refuse-yes _ _ _ _ (ap not (sym c.state_fits.ensures) ∙ c.if-not-state_fits.true-raw) refl
 
 pub returns-then-n-eq0 : goal.returns-then-n-eq0
-returns-then-n-eq0 c = refuse-no _ _ _ _ (ap not (sym c.state_fits.ensures) ∙ c.if-not-state_fits.false)
+returns-then-n-eq0 c = refuse-no _ _ _ _ (ap not (sym c.state_fits.ensures) ∙ c.if-not-state_fits.false-raw)
     (pick_yes _ _ _ _ _ refl (eq-eqb _ _ c.if-n-eq0.true) refl)
 
 pub why_row-requires : goal.why_row-requires
-why_row-requires c = fits-rows _ _ _ _ (sym c.state_fits.ensures ∙ not-false _ c.if-not-state_fits.false)
+why_row-requires c = fits-rows _ _ _ _ (sym c.state_fits.ensures ∙ c.if-not-state_fits.false)
 
 pub returns : goal.returns
-returns c = refuse-no _ _ _ _ (ap not (sym c.state_fits.ensures) ∙ c.if-not-state_fits.false)
+returns c = refuse-no _ _ _ _ (ap not (sym c.state_fits.ensures) ∙ c.if-not-state_fits.false-raw)
     (pick_no _ _ _ _ _ refl (ne_eqb _ _ c.if-n-eq0.false) c.why_row.ensures)

@@ -20,18 +20,18 @@ returns-in-Valid c =
     wrote-open _ _ _
     c.requires.0 _
     c.requires.1 c.null_bit-bit.ensures
-    (ap bit_valid c.enum_told-1.given.1) c.put_row_open.ensures
+    (ap bit_valid c.in-Valid.is) c.put_row_open.ensures
 
 pub returns-in-Null : goal.returns-in-Null
 returns-in-Null c =
     wrote-null _ _ _
     c.requires.0 _
     c.requires.1 c.null_bit-bit.ensures
-    (ap bit_valid c.enum_told-in-Null-1.given.1) c.put_row_null.ensures
+    (ap bit_valid c.in-Null.is) c.put_row_null.ensures
 
 pub returns-in-Refused : goal.returns-in-Refused
 returns-in-Refused c =
     wrote-null _ _ _
     c.requires.0 _
     c.requires.1
-    c.null_bit-bit.ensures (ap bit_valid c.bit-1.given.1) c.put_row_null-in-Refused.ensures
+    c.null_bit-bit.ensures (ap bit_valid c.in-Refused.is) c.put_row_null-in-Refused.ensures

@@ -6,10 +6,10 @@ use borrow.Author.Rules.{rules}
 use Rattle.exports.proofs.parts.told_bit.Goals as goal
 
 pub returns-in-Null : goal.returns-in-Null
-returns-in-Null c = sym (ap bit_told c.enum_told-1.given.1)
+returns-in-Null c = sym (ap bit_told c.in-Null.is)
 
 pub returns-in-Valid : goal.returns-in-Valid
-returns-in-Valid c = sym (ap bit_told c.enum_told-in-Valid-1.given.1)
+returns-in-Valid c = sym (ap bit_told c.in-Valid.is)
 
 pub returns-in-Refused : goal.returns-in-Refused
-returns-in-Refused c = ap (λ (n : ℕ). counted n 0) c.number.ensures ∙ sym (ap bit_told c.b-1.given.1)
+returns-in-Refused c = ap (λ (n : ℕ). counted n 0) c.number.ensures ∙ sym (ap bit_told c.in-Refused.is)

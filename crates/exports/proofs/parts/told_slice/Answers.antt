@@ -6,7 +6,7 @@ use borrow.Author.Rules.{rules}
 use Rattle.exports.proofs.parts.told_slice.Goals as goal
 
 pub returns-in-Is : goal.returns-in-Is
-returns-in-Is c = sym (ap slice_told c.s-1.given.1)
+returns-in-Is c = sym (ap slice_told c.in-Is.is)
 
 pub returns-in-Refused : goal.returns-in-Refused
-returns-in-Refused c = ap (λ (n : ℕ). run n 0 0) c.number.ensures ∙ sym (ap slice_told c.s-in-Refused-1.given.1)
+returns-in-Refused c = ap (λ (n : ℕ). run n 0 0) c.number.ensures ∙ sym (ap slice_told c.in-Refused.is)

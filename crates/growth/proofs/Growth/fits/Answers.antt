@@ -8,10 +8,10 @@ use borrow.Author.Rules.{rules}
 use Rattle.growth.proofs.Growth.fits.Goals as goal
 
 pub returns-then-n-lt1 : goal.returns-then-n-lt1
-returns-then-n-lt1 c = sym (fixed_zero _ _ c.self-1.given.1 (omega arith))
+returns-then-n-lt1 c = sym (fixed_zero _ _ c.in-Fixed.is (omega arith))
 
 pub returns-else-n-lt1 : goal.returns-else-n-lt1
-returns-else-n-lt1 c = ap (leb _) byte-limit-is ∙ sym (fixed-is _ _ c.self-1.given.1 (omega arith))
+returns-else-n-lt1 c = ap (leb _) byte-limit-is ∙ sym (fixed-is _ _ c.in-Fixed.is (omega arith))
 
 pub returns-in-Doubling : goal.returns-in-Doubling
-returns-in-Doubling c = size-some _ _ c.next_size.ensures ∙ sym (doubling-is _ _ c.self-in-Doubling-1.given.1)
+returns-in-Doubling c = size-some _ _ c.next_size.ensures ∙ sym (doubling-is _ _ c.in-Doubling.is)

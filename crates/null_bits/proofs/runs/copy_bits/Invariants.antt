@@ -10,7 +10,7 @@ use borrow.Author.Rules.{rules}
 use Rattle.null_bits.proofs.runs.copy_bits.Given as goal
 
 abbrev pub invariant-loop-k : goal.invariant-loop-k
-invariant-loop-k l = (l.k ≤ l.from) × (length l.initial.k ≡ length l.initial.map) × (l.initial.k ≡ put_bits l.initial.map l.map (λ j. is_valid l.first (l.src + j)) l.k)
+invariant-loop-k l = (l.k ≤ l.rows) × (length l.map ≡ length l.initial.map) × (l.map ≡ put_bits l.initial.map l.first (λ j. is_valid l.src (l.from + j)) l.k)
 
 abbrev pub decreases-loop-k : goal.decreases-loop-k
-decreases-loop-k l = l.from - l.k
+decreases-loop-k l = l.rows - l.k

@@ -8,7 +8,7 @@ use borrow.Author.Rules.{rules}
 use Rattle.null_bits.proofs.runs.copy_few.Given as goal
 
 abbrev pub invariant-loop-k : goal.invariant-loop-k
-invariant-loop-k l = (l.k ≤ l.from) × (length l.initial.k ≡ length l.initial.map) × (l.initial.k ≡ copy_bits l.initial.map l.map l.first l.src l.k)
+invariant-loop-k l = (l.k ≤ l.rows) × (length l.map ≡ length l.initial.map) × (l.map ≡ copy_bits l.initial.map l.first l.src l.from l.k)
 
 abbrev pub decreases-loop-k : goal.decreases-loop-k
-decreases-loop-k l = l.from - l.k
+decreases-loop-k l = l.rows - l.k

@@ -8,7 +8,7 @@ use borrow.Author.Rules.{rules}
 use Rattle.null_bits.proofs.runs.put_bytes.Given as goal
 
 abbrev pub invariant-loop-k : goal.invariant-loop-k
-invariant-loop-k l = (l.k ≤ l.i) × (length l.initial.k ≡ length l.initial.map) × (l.initial.k ≡ put_bytes l.initial.map l.map l.bytes l.k)
+invariant-loop-k l = (l.k ≤ l.bytes) × (length l.map ≡ length l.initial.map) × (l.map ≡ put_bytes l.initial.map l.i l.x l.k)
 
 abbrev pub decreases-loop-k : goal.decreases-loop-k
-decreases-loop-k l = l.i - l.k
+decreases-loop-k l = l.bytes - l.k

@@ -1,6 +1,6 @@
 -- The paper's number for each refusal, the row that it names, and how a call's tests make its verdict. Assumes nothing.
 use Rattle.std.specs.Prelude.{ℕ, Bool, true, false, ◌≡◌, refl}
-use Rattle.std.proofs.Common.{arith, true≢false, sym}
+use Rattle.std.proofs.Common.{true≢false, sym}
 use Rattle.bounds.specs.declared.Refusal.{Refusal}
 use Rattle.bounds.specs.declared.Refusal.TheVariants.{Setting, Fit, Row, TooLong, RowRoom, BlockRoom, DataRoom, NoBlock, Range, NotUtf8, BadView, Offsets}
 use Rattle.bounds.specs.declared.Why.{Why}
@@ -89,22 +89,3 @@ accepted-no w w' x y z e h p = go w (rw e at h)
     go : (w : Why) → is_accepted w ≡ false → z ≡ if_accepted w x y
     go Accepted k = absurd (true≢false k)
     go (Refused r) k = p
-
--- no refusal has the retired number; so no verdict has, whose number is 0 or a refusal's
-pub none-retired : (r : Refusal) → number_of r ≡ retired → ⊥
-none-retired Setting e = omega arith
-none-retired Fit e = omega arith
-none-retired Row e = omega arith
-none-retired TooLong e = omega arith
-none-retired RowRoom e = omega arith
-none-retired BlockRoom e = omega arith
-none-retired DataRoom e = omega arith
-none-retired NoBlock e = omega arith
-none-retired Range e = omega arith
-none-retired NotUtf8 e = omega arith
-none-retired (BadView r) e = omega arith
-none-retired Offsets e = omega arith
-
-pub never-retired : (w : Why) → why_number w ≡ retired → ⊥
-never-retired Accepted e = omega arith
-never-retired (Refused r) e = none-retired r e

@@ -11,7 +11,7 @@ use lib.ListN.{length, get_or, take, drop, length-append, length-drop, take-appe
 use lib.Seq.{take_at, drop_at, take_all, drop-length, length-take-le}
 use Rattle.basis.specs.Pick.{pick}
 use Rattle.order.specs.Order.{same}
-use Rattle.order.specs.OrderLaws.{same-yes, same_true}
+use Rattle.order.proofs.OrderLaws.{same-yes, same_true}
 use Rattle.codes.specs.Grammar.{is_letter, is_digit, Texts, ◌then◌, optional, Digits, Day, number_after, hyphen, months, OneOf, month, two_or_four_digits, group, date}
 use Rattle.codes.specs.Recogniser.{is_hyphen, leading, after_digits, past_hyphen, is_digits, is_day, is_one_of, is_month, is_year, is_month_year, is_day_month, is_month_day, is_group, groups_follow, is_groups, is_date}
 use Rattle.codes.proofs.Laws.{both, front-digits, digits-yes, leading-all, leading_low, digit_low}

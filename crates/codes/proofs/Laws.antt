@@ -14,7 +14,7 @@ use lib.ListN.{length, get_or, take, drop, length-take, length-drop, drop_of_len
 use lib.Seq.{drop-cons, drop-drop, length-take-le, get_or-take}
 use Rattle.basis.specs.Pick.{pick}
 use Rattle.order.specs.Order.{same}
-use Rattle.order.specs.OrderLaws.{same-is, same-no}
+use Rattle.order.proofs.OrderLaws.{same-is, same-no}
 use Rattle.codes.specs.Grammar.{is_letter, is_digit, number_after, months}
 use Rattle.codes.specs.Recogniser.{is_hyphen, is_code_byte, may_stand, parted, leading, past_hyphen, is_digits, is_day, is_one_of, is_month, is_year, is_month_year, is_month_day, is_day_month, is_group, groups_follow, is_groups, conforms, is_date}
 use Rattle.codes.specs.declared.Mark.TheVariants.{Other, Code, Date}

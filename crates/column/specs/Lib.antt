@@ -4,8 +4,3 @@ pub mod Spot
 pub mod Truth
 pub mod Laid
 pub mod Room
-pub mod FitLaws
-pub mod ReachLaws
-pub mod SpotLaws
-pub mod TruthLaws
-pub mod LowestLaws

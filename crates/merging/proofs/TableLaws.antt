@@ -15,7 +15,7 @@ use lib.Seq.{get_or-set_same, get_or-set_other}
 use Rattle.merging.specs.declared.Found.{Found}
 use Rattle.merging.specs.declared.Found.TheVariants.{Row, Free, Full}
 use Rattle.order.specs.Order.{same}
-use Rattle.order.specs.OrderLaws.{same_self, same_true}
+use Rattle.order.proofs.OrderLaws.{same_self, same_true}
 use Rattle.merging.specs.Earliest.{In, here, there, earliest}
 use Rattle.merging.specs.Table.{search_from, Holds}
 use Rattle.merging.proofs.Search.{seek-row, seek-free, seek-ext, seek-old, seek-new, never-full, filled-set, filled-zeros}
@@ -36,6 +36,7 @@ earliest-some val x [] r e = let z : ◌≡◌ {A = ℕ} 0 1 = cc in absurd (ome
 earliest-some val x (s ∷ memo) r e = some-step val x s memo r (earliest val x memo) (earliest-some val x memo r) (same (val s) x) refl e
 
 pub earliest-none : (val : ℕ → List ℕ) (x : List ℕ) (memo : List ℕ) → earliest val x memo ≡ none → (r : ℕ) → In r memo → val r ≢ x
+earliest-none val x [] e r i = elim i [ ]
 earliest-none val x (s ∷ memo) e r i = none-step val x s memo (earliest val x memo) (earliest-none val x memo) (same (val s) x) refl e r i
 
 abbrev pub row_of : Found → Option ℕ
@@ -44,6 +45,7 @@ row_of (Free q) = none
 row_of Full = none
 
 pub in_left : (r s : ℕ) (memo : List ℕ) → In r memo → In r (memo ++ s ∷ [])
+in_left r s [] i = elim i [ ]
 in_left r s (a ∷ memo) here = here
 in_left r s (a ∷ memo) (there i) = there (in_left r s memo i)
 
@@ -53,6 +55,7 @@ in-new s (a ∷ memo) = there (in-new s memo)
 
 pub in-last : (r s : ℕ) (memo : List ℕ) → In r (memo ++ s ∷ []) → In r memo ⊎ (r ≡ s)
 in-last r s [] here = inr refl
+in-last r s [] (there i) = elim i [ ]
 in-last r s (a ∷ memo) here = inl here
 in-last r s (a ∷ memo) (there i) = ⊎_elim (λ w. inl (there w)) inr (in-last r s memo i)
 
@@ -200,6 +203,7 @@ module _ (h : List ℕ → ℕ) (mg : ℕ → Bool) (val : ℕ → List ℕ) (t 
       long r z b = true≢false (sym b ∙ ap (λ (k : ℕ). mg (length (val' k))) z ∙ ap (λ (l : List ℕ). mg (length l)) new ∙ m)
 
 pub none_in : (r : ℕ) (l : List ℕ) → In r l → l ≡ [] → ⊥
+none_in r [] i e = elim i [ ]
 none_in r (s ∷ l) i e = let z : ◌≡◌ {A = ℕ} 0 1 = cc in omega arith
 
 zeros : (n p : ℕ) → ◌≡◌ {A = ℕ} (get_or (replicate n 0) p 0) 0

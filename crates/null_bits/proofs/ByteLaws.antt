@@ -15,7 +15,7 @@ use lib.Pow.{pow_pos, pow_mono, shl_exact, pow-add, shr-shr, mod-pow-add, field,
 use lib.Seq.{get_or-set_same, set-set}
 use Rattle.null_bits.specs.Bits.{bit_at, is_valid, put_bit, put_in, bit_number}
 use Rattle.null_bits.specs.Runs.{put_bits, put_bytes, put_run, digit}
-use Rattle.null_bits.specs.RunLaws.{length-bits, bits-add, bits-same}
+use Rattle.null_bits.proofs.RunLaws.{length-bits, bits-add, bits-same}
 use Rattle.null_bits.proofs.Laws.{put-null}
 
 digit-bit : (x k : ℕ) → bit_number (digit x k) ≡ x / 2 ^ k % 2

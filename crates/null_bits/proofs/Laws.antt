@@ -14,7 +14,7 @@ use lib.ListN.{get_or}
 use Rattle.words.specs.Words.{Bytes, word_at}
 use Rattle.words.specs.WordLaws.{word_lt}
 use Rattle.null_bits.specs.Bits.{bit_at, count_valid}
-use Rattle.null_bits.specs.CountLaws.{count_add}
+use Rattle.null_bits.proofs.CountLaws.{count_add}
 
 ones_bit : (r : ℕ) → r < 2 → ones r ≡ r
 unfolding ones

@@ -12,8 +12,8 @@ use lib.Seq.{ext_get_or}
 use Rattle.words.specs.Words.{Bytes, word_at, be_at}
 use Rattle.words.specs.WordLaws.{word-digit}
 use Rattle.order.specs.Order.{thenby, cmp, Agree}
-use Rattle.order.specs.OrderLaws.{compare-eq, Tri, below, level, above, tri}
-use Rattle.order.specs.WordOrder.{firm, cmp-byte, cmp-word, still, none_left}
+use Rattle.order.proofs.OrderLaws.{compare-eq, Tri, below, level, above, tri}
+use Rattle.order.proofs.WordOrder.{firm, cmp-byte, cmp-word, still, none_left}
 
 -- ---- the order of lists
 

@@ -1,2 +1,4 @@
 pub mod Laws
 pub mod Only
+pub mod OrderLaws
+pub mod WordOrder

@@ -2,7 +2,7 @@
 -- Assumes nothing.
 use mathlib.Core.Path.{sym, ◌∙◌}
 use Rattle.basis.specs.Only.{Only}
-use Rattle.order.specs.OrderLaws.{ordering-one}
+use Rattle.order.proofs.OrderLaws.{ordering-one}
 use Rattle.order.proofs.cmp.Kinds as cmp-kinds
 use Rattle.order.proofs.cmp.Reads as cmp
 use Rattle.order.proofs.cmp_short.Kinds as cmp-short-kinds

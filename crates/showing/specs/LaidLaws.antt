@@ -7,7 +7,7 @@ use Rattle.std.proofs.Math.Decide.{ℕ_discrete}
 use Rattle.std.proofs.Math.Seq.{paste, append_snoc, take-append_seam, drop-append_seam}
 use Rattle.null_bits.specs.Bits.{valid_at}
 use Rattle.null_bits.specs.Runs.{put_bits}
-use Rattle.null_bits.specs.RunLaws.{bits-read}
+use Rattle.null_bits.proofs.RunLaws.{bits-read}
 use Rattle.column.specs.declared.Block.{Block}
 use Rattle.column.specs.Lent.{Lent, buffers, block, block_at}
 use Rattle.column.specs.Meaning.{bytes_of, blocks_of}

@@ -6,7 +6,7 @@ use Rattle.std.proofs.Common.{le_of_suc-le-suc, not-suc-le-zero, leb-true}
 use Rattle.basis.specs.Pick.{pick}
 use Rattle.words.specs.Words.{pad}
 use Rattle.order.specs.Order.{thenby, cmp}
-use Rattle.order.specs.OrderLaws.{cmp-same}
+use Rattle.order.proofs.OrderLaws.{cmp-same}
 use Rattle.views.specs.View.{short_most, is_short, length_of, prefix_of, body_of}
 use Rattle.column.specs.Meaning.{shown}
 use Rattle.showing.specs.Row.{Row}

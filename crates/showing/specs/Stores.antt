@@ -8,7 +8,7 @@ use Rattle.std.proofs.lemmas.List.{length-map, get_or_at}
 use Rattle.std.proofs.Math.ListN.{get_or-append, get_or-map, get_or-eq_default}
 use Rattle.std.proofs.Math.Seq.{paste, length-take-le}
 use Rattle.null_bits.specs.Bits.{is_valid, put_bit}
-use Rattle.null_bits.specs.PutLaws.{valid-put-same, valid-put-before}
+use Rattle.null_bits.proofs.PutLaws.{valid-put-same, valid-put-before}
 use Rattle.views.specs.View.{view_size, view_at}
 use Rattle.views.specs.ViewLaws.{part-stored, part-before, view-stored, view-before}
 use Rattle.column.specs.declared.Block.{Block}

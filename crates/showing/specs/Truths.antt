@@ -13,7 +13,7 @@ use Rattle.basis.specs.Pick.{pick}
 use Rattle.words.specs.Words.{pad}
 use Rattle.words.specs.ListLaws.{pad-short, take-pad}
 use Rattle.order.specs.Order.{same}
-use Rattle.order.specs.OrderLaws.{same_self, same_true}
+use Rattle.order.proofs.OrderLaws.{same_self, same_true}
 use Rattle.views.specs.View.{view_size, short_most, is_short, length_of, prefix_of, body_of, block_of, offset_of}
 use Rattle.column.specs.declared.Kind.{Kind}
 use Rattle.column.specs.declared.Reach.TheVariants.{Inside}
@@ -22,8 +22,8 @@ use Rattle.column.specs.declared.Spot.TheVariants as spot
 use Rattle.column.specs.Lent.{Lent, block_at, data_room, in_data}
 use Rattle.column.specs.Meaning.{part, bytes_of, blocks_of, shown}
 use Rattle.column.specs.Spot.{spot_in}
-use Rattle.column.specs.ReachLaws.{reach-short, reach-long}
-use Rattle.column.specs.SpotLaws.{Stood, in-views, in-data, no_block, outside, stood}
+use Rattle.column.proofs.ReachLaws.{reach-short, reach-long}
+use Rattle.column.proofs.SpotLaws.{Stood, in-views, in-data, no_block, outside, stood}
 use Rattle.column.specs.Truth.{reach_by, reach_of, is_inside, reachable, zeros, honest, of_kind, is_true}
 use Rattle.showing.specs.Row.{Row, row-short, row-long}
 use Rattle.showing.specs.Rooms.{rooms, both}

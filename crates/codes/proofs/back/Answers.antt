@@ -3,7 +3,6 @@ use Prim.Native.Nat.{◌-◌}
 use lib.Seq.{take_all}
 use lib.ListN.{length, drop, length-drop}
 use native.Mathlib.Omega.{arith}
-use borrow.Author.Rules.{rules}
 use Rattle.codes.proofs.back.Goals as goal
 
 pub returns : goal.returns

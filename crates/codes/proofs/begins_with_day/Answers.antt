@@ -1,6 +1,5 @@
 -- `codes::begins_with_day` meets its contract. Assumes nothing.
 use Rattle.codes.proofs.Laws.{front-none, front-one, front-two, front-zero, front-some}
-use borrow.Author.Rules.{rules}
 use Rattle.codes.proofs.begins_with_day.Goals as goal
 
 pub returns-then-d-eq1 : goal.returns-then-d-eq1

@@ -1,7 +1,6 @@
 -- `codes::conforms` meets its contract. Assumes nothing.
 use Rattle.codes.proofs.Laws.{code-short, code-long, code-parted}
 use native.Mathlib.Omega.{arith}
-use borrow.Author.Rules.{rules}
 use Rattle.codes.proofs.conforms.Goals as goal
 
 pub returns-then-s-lt4 : goal.returns-then-s-lt4

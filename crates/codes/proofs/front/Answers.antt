@@ -1,7 +1,6 @@
 -- `codes::front` meets its contract. Assumes nothing.
 -- `codes::front` meets its contract. Assumes nothing.
 use native.Mathlib.Nat.{sub-zero}
-use borrow.Author.Rules.{rules}
 use Rattle.codes.proofs.front.Goals as goal
 
 pub returns : goal.returns

@@ -1,10 +1,7 @@
 -- `codes::groups_follow` meets its contract. Assumes nothing.
 use Rattle.codes.proofs.Laws.{follow-end, follow-none, follow-other, follow-no, follow-on, follow-room}
-use Rattle.codes.specs.Recogniser.{groups_follow, leading}
-use borrow.Author.Tests.{not-true, not-false}
-use lib.ListN.{length, drop}
-use Prim.Native.Nat.{◌≤◌, ◌-◌}
-use mathlib.Core.Path.{◌≡◌, refl, sym, ap, ◌∙◌}
+use Rattle.codes.specs.Recogniser.{leading}
+use mathlib.Core.Path.{refl, sym, ap, ◌∙◌}
 use native.Mathlib.Omega.{arith}
 use Rattle.codes.proofs.groups_follow.Goals as goal
 

@@ -1,11 +1,8 @@
 -- `codes::groups_follow` meets its contract. Assumes nothing.
-use Rattle.codes.proofs.Laws.{follow-end, follow-none, follow-other, follow-no, follow-on, follow-room}
-use Rattle.codes.specs.Recogniser.{groups_follow, leading}
-use borrow.Author.Tests.{not-true, not-false}
+use Rattle.codes.specs.Recogniser.{groups_follow}
 use lib.ListN.{length, drop}
 use Prim.Native.Nat.{◌≤◌, ◌-◌}
-use mathlib.Core.Path.{◌≡◌, refl, sym, ap, ◌∙◌}
-use native.Mathlib.Omega.{arith}
+use mathlib.Core.Path.{◌≡◌}
 use Rattle.codes.proofs.groups_follow.Given as goal
 
 abbrev pub invariant-loop-at : goal.invariant-loop-at

@@ -1,7 +1,6 @@
 -- `codes::is_code_byte` meets its contract. Assumes nothing.
 use native.Mathlib.Omega.{arith}
 use Rattle.codes.proofs.Laws.{byte_low, byte_high, byte-bit}
-use borrow.Author.Rules.{rules}
 use Rattle.codes.proofs.is_code_byte.Goals as goal
 
 pub returns-then-b-lt45 : goal.returns-then-b-lt45

@@ -5,7 +5,6 @@ use lib.Seq.{take-length}
 use lib.ListN.{take}
 use Prim.Native.Nat.{ℕ}
 use mathlib.Core.Path.{ap, ◌∙◌}
-use borrow.Author.Rules.{rules}
 use Rattle.codes.proofs.is_day.Goals as goal
 
 pub returns-then-d-s : goal.returns-then-d-s

@@ -4,8 +4,6 @@ use Rattle.codes.proofs.Laws.{day-month-no, day-month-yes}
 use Rattle.codes.specs.Recogniser.{is_month_year, past_hyphen}
 use Prim.Native.Nat.{ℕ}
 use mathlib.Core.List.{List}
-use borrow.Author.Tests.{not-true, not-false}
-use borrow.Author.Rules.{rules}
 use Rattle.codes.proofs.is_day_month.Goals as goal
 
 pub begins_with_day-requires : goal.begins_with_day-requires

@@ -1,7 +1,6 @@
 -- `codes::is_groups` meets its contract. Assumes nothing.
 use Rattle.codes.proofs.Laws.{groups-no, groups-one, groups-more}
 use Rattle.codes.specs.Recogniser.{groups_follow}
-use borrow.Author.Tests.{not-true, not-false}
 use mathlib.Core.Path.{sym, ◌∙◌, ap}
 use Rattle.codes.proofs.is_groups.Goals as goal
 

@@ -1,7 +1,6 @@
 -- `codes::is_month` meets its contract. Assumes nothing.
 use Rattle.codes.proofs.Laws.{month-long, month-is}
 use mathlib.Core.Path.{sym, ◌∙◌}
-use borrow.Author.Rules.{rules}
 use Rattle.codes.proofs.is_month.Goals as goal
 
 pub returns-then-s-ne3 : goal.returns-then-s-ne3

@@ -3,9 +3,7 @@ use Rattle.codes.proofs.Laws.{month-day-short, month-day-no, month-day-yes}
 use Rattle.codes.specs.Recogniser.{is_month, is_day, past_hyphen}
 use Prim.Native.Nat.{ℕ}
 use mathlib.Core.List.{List}
-use borrow.Author.Tests.{not-true, not-false}
 use mathlib.Core.Path.{sym, ◌∙◌, ap}
-use borrow.Author.Rules.{rules}
 use Rattle.codes.proofs.is_month_day.Goals as goal
 
 pub returns-then-s-lt3 : goal.returns-then-s-lt3

@@ -1,9 +1,8 @@
 -- `codes::is_month_year` meets its contract. Assumes nothing.
 use Rattle.codes.proofs.Laws.{month-year-short, month-year-no, month-year-yes}
 use Rattle.codes.specs.Recogniser.{is_month, is_year}
-use borrow.Author.Tests.{not-true, not-false}
+use borrow.Author.Tests.{not-false}
 use mathlib.Core.Path.{sym, ◌∙◌, ap}
-use borrow.Author.Rules.{rules}
 use Rattle.codes.proofs.is_month_year.Goals as goal
 
 pub returns-then-s-lt3 : goal.returns-then-s-lt3

@@ -1,13 +1,7 @@
 -- `codes::is_parted` meets its contract. Assumes nothing.
 use Rattle.codes.proofs.Laws.{parted-no, parted-on, parted-end}
-use mathlib.Core.Bool.{true}
-use mathlib.Core.Path.{◌≡◌, refl, sym, ◌∙◌}
-use Rattle.codes.specs.Recogniser.{parted}
-use borrow.Author.Tests.{not-true, not-false}
-use lib.ListN.{length, drop}
-use Prim.Native.Nat.{◌≤◌, ◌-◌}
+use mathlib.Core.Path.{refl, sym, ◌∙◌}
 use native.Mathlib.Omega.{arith}
-use borrow.Author.Rules.{rules}
 use Rattle.codes.proofs.is_parted.Goals as goal
 
 pub loop-i-init : goal.loop-i-init

@@ -1,13 +1,9 @@
 -- `codes::is_parted` meets its contract. Assumes nothing.
-use Rattle.codes.proofs.Laws.{parted-no, parted-on, parted-end}
 use mathlib.Core.Bool.{true}
-use mathlib.Core.Path.{◌≡◌, refl, sym, ◌∙◌}
+use mathlib.Core.Path.{◌≡◌}
 use Rattle.codes.specs.Recogniser.{parted}
-use borrow.Author.Tests.{not-true, not-false}
 use lib.ListN.{length, drop}
 use Prim.Native.Nat.{◌≤◌, ◌-◌}
-use native.Mathlib.Omega.{arith}
-use borrow.Author.Rules.{rules}
 use Rattle.codes.proofs.is_parted.Given as goal
 
 abbrev pub invariant-loop-i : goal.invariant-loop-i

@@ -1,10 +1,9 @@
 -- `codes::is_parted_long` meets its contract. Assumes nothing.
 use Rattle.codes.proofs.Long.{window-of, long-no, last-stands, two-windows, three-windows}
-use borrow.Author.Tests.{not-true, not-false}
+use borrow.Author.Tests.{not-false}
 use mathlib.Core.Bool.{true≢false}
 use mathlib.Core.Path.{refl, sym, ◌∙◌}
 use native.Mathlib.Omega.{arith}
-use borrow.Author.Rules.{rules}
 use Rattle.codes.proofs.is_parted_long.Goals as goal
 
 pub returns-then-s-eq45 : goal.returns-then-s-eq45

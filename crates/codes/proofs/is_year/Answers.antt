@@ -2,7 +2,6 @@
 use Rattle.codes.proofs.Laws.{year-none, year-other, year-not, year-two, year-four}
 use Rattle.codes.specs.Recogniser.{leading}
 use mathlib.Core.Path.{◌∙◌, ap}
-use borrow.Author.Rules.{rules}
 use Rattle.codes.proofs.is_year.Goals as goal
 
 pub returns-then-s-eq0 : goal.returns-then-s-eq0

@@ -1,13 +1,9 @@
 -- `codes::leading` meets its contract. Assumes nothing.
 -- `codes::leading` meets its contract. The digits passed and those that are left are all. Assumes nothing.
-use borrow.Author.Rules.{rules}
-use mathlib.Core.Path.{◌≡◌, sym, ◌∙◌}
+use mathlib.Core.Path.{◌≡◌}
 use Prim.Native.Nat.{◌+◌, ◌-◌, ◌≤◌}
-use native.Mathlib.Omega.{arith}
-use borrow.Author.Tests.{not-true, not-false}
 use lib.ListN.{length, drop}
 use Rattle.codes.specs.Recogniser.{leading}
-use Rattle.codes.proofs.Laws.{leading-more, leading-stop, leading_end}
 use Rattle.codes.proofs.leading.Given as goal
 
 abbrev pub invariant-loop-i : goal.invariant-loop-i

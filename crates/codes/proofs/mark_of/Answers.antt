@@ -1,6 +1,5 @@
 -- `codes::mark_of` meets its contract. Assumes nothing.
 use Rattle.codes.proofs.Laws.{mark-other, mark-date, mark_code}
-use borrow.Author.Tests.{not-true, not-false}
 use mathlib.Core.Path.{sym, ◌∙◌}
 use Rattle.codes.proofs.mark_of.Goals as goal
 

@@ -1,7 +1,5 @@
 -- `codes::may_stand` meets its contract. Assumes nothing.
 use mathlib.Core.Path.{sym, ◌∙◌}
-use borrow.Author.Rules.{rules}
-use borrow.Author.Tests.{not-true, not-false}
 use Rattle.codes.proofs.Laws.{stands-not, stands-hyphen, stands_word}
 use Rattle.codes.proofs.may_stand.Goals as goal
 

@@ -1,7 +1,6 @@
 -- `codes::past_hyphen` meets its contract. Assumes nothing.
 use Rattle.codes.proofs.Laws.{past-none, past_one, past-other}
 use mathlib.Core.Path.{◌∙◌}
-use borrow.Author.Rules.{rules}
 use Rattle.codes.proofs.past_hyphen.Goals as goal
 
 pub returns-then-s-eq0 : goal.returns-then-s-eq0

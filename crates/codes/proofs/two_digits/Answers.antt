@@ -1,7 +1,6 @@
 -- `codes::two_digits` meets its contract. Assumes nothing.
 use Rattle.codes.specs.Grammar.{number_after}
 use native.Mathlib.Omega.{arith}
-use borrow.Author.Rules.{rules}
 use Rattle.codes.proofs.two_digits.Goals as goal
 
 pub returns : goal.returns

@@ -4,7 +4,6 @@ use Rattle.codes.proofs.Lanes.{lanes}
 use lib.Bits.{bit_xor}
 use Prim.Native.Nat.{◌+◌, ◌<◌}
 use native.Mathlib.Omega.{arith}
-use borrow.Author.Rules.{rules}
 use Rattle.codes.proofs.window.Goals as goal
 
 pub returns-then-w-ne0 : goal.returns-then-w-ne0

@@ -1,14 +1,7 @@
 -- `column::all_in_data` meets its contract. Assumes nothing.
-use mathlib.Core.Bool.{true}
-use mathlib.Core.List.{[]}
 use mathlib.Core.Path.{◌≡◌, sym, ◌∙◌}
-use Prim.Native.Nat.{◌≤◌, ◌-◌}
 use native.Mathlib.Omega.{arith}
-use borrow.Author.Rules.{rules}
-use borrow.Author.Tests.{not-true, not-false}
-use Rattle.column.specs.FitLaws.{all_none, all_more, all-not}
-use Rattle.column.specs.Lent.{all_in_data}
-use Rattle.column.specs.Room.{bare}
+use Rattle.column.proofs.FitLaws.{all_none, all_more, all-not}
 use Rattle.column.proofs.all_in_data.Goals as goal
 
 pub loop-k-init : goal.loop-k-init

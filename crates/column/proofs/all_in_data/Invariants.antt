@@ -1,12 +1,8 @@
 -- `column::all_in_data` meets its contract. Assumes nothing.
 use mathlib.Core.Bool.{true}
 use mathlib.Core.List.{[]}
-use mathlib.Core.Path.{◌≡◌, sym, ◌∙◌}
+use mathlib.Core.Path.{◌≡◌}
 use Prim.Native.Nat.{◌≤◌, ◌-◌}
-use native.Mathlib.Omega.{arith}
-use borrow.Author.Rules.{rules}
-use borrow.Author.Tests.{not-true, not-false}
-use Rattle.column.specs.FitLaws.{all_none, all_more, all-not}
 use Rattle.column.specs.Lent.{all_in_data}
 use Rattle.column.specs.Room.{bare}
 use Rattle.column.proofs.all_in_data.Given as goal

@@ -1,7 +1,6 @@
 -- `column::fits` meets its contract. Assumes nothing.
 use mathlib.Core.Path.{sym, ◌∙◌}
-use borrow.Author.Rules.{rules}
-use Rattle.column.specs.FitLaws.{length-table}
+use Rattle.column.proofs.FitLaws.{length-table}
 use Rattle.column.proofs.fits.Goals as goal
 
 pub returns : goal.returns

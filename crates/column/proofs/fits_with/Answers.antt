@@ -1,10 +1,8 @@
 -- `column::fits_with` meets its contract. Assumes nothing.
 use mathlib.Core.Path.{sym, ◌∙◌}
 use mathlib.Core.Bool.{true≢false}
-use borrow.Author.Rules.{rules}
 use native.Mathlib.Omega.{arith}
-use borrow.Author.Tests.{not-true, not-false}
-use Rattle.column.specs.FitLaws.{over-limit, over-views, over-map, over-blocks, fits-is}
+use Rattle.column.proofs.FitLaws.{over-limit, over-views, over-map, over-blocks, fits-is}
 use Rattle.bounds.specs.Bounds.{row-limit-is, block-limit-is}
 use Rattle.column.proofs.fits_with.Goals as goal
 

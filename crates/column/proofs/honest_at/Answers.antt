@@ -1,8 +1,7 @@
 -- `column::honest_at` meets its contract. Assumes nothing.
 use mathlib.Core.Path.{◌∙◌}
 use native.Mathlib.Omega.{arith}
-use borrow.Author.Rules.{rules}
-use Rattle.column.specs.TruthLaws.{honest-short, honest-long}
+use Rattle.column.proofs.TruthLaws.{honest-short, honest-long}
 use Rattle.column.proofs.honest_at.Goals as goal
 
 pub returns-then-len-le-SHORT_MOST : goal.returns-then-len-le-SHORT_MOST

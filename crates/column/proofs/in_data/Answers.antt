@@ -1,8 +1,7 @@
 -- `column::in_data` meets its contract. Assumes nothing.
 use native.Mathlib.Omega.{arith}
-use borrow.Author.Rules.{rules}
 use Rattle.bounds.specs.Bounds.{byte-limit-is}
-use Rattle.column.specs.FitLaws.{in-data-not, in-data-is}
+use Rattle.column.proofs.FitLaws.{in-data-not, in-data-is}
 use Rattle.column.proofs.in_data.Goals as goal
 
 pub returns-then-len-gt-BYTE_LIMIT : goal.returns-then-len-gt-BYTE_LIMIT

@@ -1,5 +1,4 @@
 -- `column::is_true_at` meets its contract. Assumes nothing.
-use borrow.Author.Rules.{rules}
 use Rattle.column.proofs.is_true_at.Goals as goal
 
 pub returns : goal.returns

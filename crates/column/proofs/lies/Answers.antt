@@ -1,6 +1,5 @@
 -- `column::lies` meets its contract. Assumes nothing.
 use mathlib.Core.Path.{sym}
-use borrow.Author.Rules.{rules}
 use Rattle.column.proofs.lies.Goals as goal
 
 pub returns-then-known : goal.returns-then-known

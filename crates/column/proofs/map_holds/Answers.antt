@@ -4,7 +4,7 @@ use native.Mathlib.Omega.{arith}
 use borrow.Author.Tests.{le-leb}
 use lib.ListN.{length}
 use Rattle.bounds.specs.Bounds.{row_limit, row-limit-is}
-use Rattle.column.specs.FitLaws.{map-bytes}
+use Rattle.column.proofs.FitLaws.{map-bytes}
 use Rattle.column.proofs.map_holds.Goals as goal
 
 pub overflow_add-result : goal.overflow_add-result

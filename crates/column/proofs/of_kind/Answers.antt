@@ -1,5 +1,4 @@
 -- `column::of_kind` meets its contract. Assumes nothing.
-use borrow.Author.Rules.{rules}
 use Rattle.column.proofs.of_kind.Goals as goal
 
 pub returns-in-Text : goal.returns-in-Text

@@ -1,8 +1,7 @@
 -- `column::part_of` meets its contract. Assumes nothing.
 use mathlib.Core.Path.{refl, ap}
-use borrow.Author.Rules.{rules}
 use native.Mathlib.Omega.{arith}
-use Rattle.column.specs.SpotLaws.{lies-view, lies-data, view-bytes, data-bytes, no_bytes, points-view, points-data, points_none}
+use Rattle.column.proofs.SpotLaws.{lies-view, lies-data, view-bytes, data-bytes, no_bytes, points-view, points-data, points_none}
 use Rattle.bounds.specs.Bounds.{byte-limit-small}
 use Rattle.column.specs.Truth.{reach_by, is_inside}
 use Rattle.column.specs.declared.Spot.{Spot}

@@ -1,7 +1,6 @@
 -- `column::reach_at` meets its contract. Assumes nothing.
 use mathlib.Core.Path.{ap, ◌∙◌}
-use borrow.Author.Rules.{rules}
-use Rattle.column.specs.SpotLaws.{spot-reach}
+use Rattle.column.proofs.SpotLaws.{spot-reach}
 use Rattle.column.specs.Truth.{reach_by}
 use Rattle.column.proofs.reach_at.Goals as goal
 

@@ -1,7 +1,6 @@
 -- `column::reachable_at` meets its contract. Assumes nothing.
 use mathlib.Core.Path.{◌∙◌}
-use borrow.Author.Rules.{rules}
-use Rattle.column.specs.SpotLaws.{found-reach}
+use Rattle.column.proofs.SpotLaws.{found-reach}
 use Rattle.column.proofs.reachable_at.Goals as goal
 
 pub returns : goal.returns

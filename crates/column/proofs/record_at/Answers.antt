@@ -1,10 +1,9 @@
 -- `column::record_at` meets its contract. Assumes nothing.
 use mathlib.Core.Path.{sym, ap, ◌∙◌}
-use borrow.Author.Rules.{rules}
 use native.Mathlib.Omega.{arith}
 use lib.ListN.{get_or}
 use Prim.Native.Nat.{ℕ}
-use Rattle.column.specs.FitLaws.{table_at}
+use Rattle.column.proofs.FitLaws.{table_at}
 use Rattle.column.specs.Lent.{table_of, block}
 use Rattle.column.proofs.record_at.Goals as goal
 

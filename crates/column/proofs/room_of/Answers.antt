@@ -1,6 +1,5 @@
 -- `column::room_of` meets its contract. Assumes nothing.
 use mathlib.Core.Path.{ap, ◌∙◌}
-use borrow.Author.Rules.{rules}
 use Prim.Native.Nat.{ℕ, min}
 use lib.ListN.{length}
 use Rattle.bounds.specs.Bounds.{byte-limit-is}

@@ -1,6 +1,5 @@
 -- `column::spot_at` meets its contract. Assumes nothing.
-use borrow.Author.Rules.{rules}
-use Rattle.column.specs.SpotLaws.{spot_is}
+use Rattle.column.proofs.SpotLaws.{spot_is}
 use Rattle.column.proofs.spot_at.Goals as goal
 
 pub returns : goal.returns

@@ -1,11 +1,9 @@
 -- `column::spot_knowing` meets its contract. Assumes nothing.
 use mathlib.Core.Path.{sym, ◌∙◌}
 use native.Mathlib.Omega.{arith}
-use borrow.Author.Rules.{rules}
-use borrow.Author.Tests.{not-true, not-false}
 use Rattle.bounds.specs.Bounds.{byte-limit-is}
-use Rattle.column.specs.FitLaws.{all-each, in-data-gives}
-use Rattle.column.specs.SpotLaws.{spot-short, spot-no-block, long-over, long-past, long-data}
+use Rattle.column.proofs.FitLaws.{all-each, in-data-gives}
+use Rattle.column.proofs.SpotLaws.{spot-short, spot-no-block, long-over, long-past, long-data}
 use Rattle.column.proofs.spot_knowing.Goals as goal
 
 pub returns-then-blocks-k : goal.returns-then-blocks-k

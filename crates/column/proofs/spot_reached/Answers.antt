@@ -1,8 +1,7 @@
 -- `column::spot_reached` meets its contract. Assumes nothing.
-use borrow.Author.Rules.{rules}
 use native.Mathlib.Omega.{arith}
 use Rattle.bounds.specs.Bounds.{byte-limit-is}
-use Rattle.column.specs.SpotLaws.{spot-short, reached-spans, reached-data}
+use Rattle.column.proofs.SpotLaws.{spot-short, reached-spans, reached-data}
 use Rattle.column.proofs.spot_reached.Goals as goal
 
 pub bounds-starts-k : goal.bounds-starts-k

@@ -1,7 +1,6 @@
 -- `column::spot_with` meets its contract. Assumes nothing.
-use borrow.Author.Rules.{rules}
 use native.Mathlib.Omega.{arith}
-use Rattle.column.specs.SpotLaws.{spot-short, spot-no-block, spot-over, spot_past, spot-data}
+use Rattle.column.proofs.SpotLaws.{spot-short, spot-no-block, spot-over, spot_past, spot-data}
 use Rattle.column.proofs.spot_with.Goals as goal
 
 pub returns-then-len-le-SHORT_MOST : goal.returns-then-len-le-SHORT_MOST

@@ -1,11 +1,9 @@
 -- `column::true_with` meets its contract. Assumes nothing.
 use mathlib.Core.Path.{sym, ap, ◌∙◌}
 use mathlib.Core.List.{[]}
-use borrow.Author.Rules.{rules}
-use borrow.Author.Tests.{not-true, not-false}
 use lib.ListN.{length}
-use Rattle.column.specs.SpotLaws.{spot-lies, spot-length, spot_is, spot-reaches, spot-shown}
-use Rattle.column.specs.TruthLaws.{untrue-reach, untrue-honest, true-kind}
+use Rattle.column.proofs.SpotLaws.{spot-lies, spot-length, spot_is, spot-reaches, spot-shown}
+use Rattle.column.proofs.TruthLaws.{untrue-reach, untrue-honest, true-kind}
 use Rattle.column.proofs.true_with.Goals as goal
 
 pub returns-then-not-is_reached : goal.returns-then-not-is_reached
@@ -17,12 +15,11 @@ part_of-value-requires c = spot-lies _ _ _ _ _ _ _ c.room_of.ensures c.spot_with
     c.requires
 
 pub honest_at-requires : goal.honest_at-requires
-honest_at-requires c =
-    (
-      c.requires,
-      ap length c.part_of-value.ensures.0 ∙ spot-length _ _ _ _ _ _ _ c.room_of.ensures
-          c.spot_with-s.ensures (sym c.is_reached.ensures ∙ c.if-not-is_reached.false) c.requires,
-    )
+honest_at-requires c = (
+  c.requires,
+  ap length c.part_of-value.ensures.0 ∙ spot-length _ _ _ _ _ _ _ c.room_of.ensures
+      c.spot_with-s.ensures (sym c.is_reached.ensures ∙ c.if-not-is_reached.false) c.requires,
+)
 
 pub returns-then-not-honest_at : goal.returns-then-not-honest_at
 returns-then-not-honest_at c =

@@ -1,7 +1,6 @@
 -- `column::value_part` meets its contract. Assumes nothing.
 use mathlib.Core.Path.{ap, ◌∙◌}
-use borrow.Author.Rules.{rules}
-use Rattle.column.specs.SpotLaws.{spot-shown, found-lies, found-reach}
+use Rattle.column.proofs.SpotLaws.{spot-shown, found-lies, found-reach}
 use Rattle.column.specs.Spot.{points_to}
 use Rattle.column.proofs.value_part.Goals as goal
 

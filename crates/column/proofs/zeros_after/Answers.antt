@@ -1,8 +1,7 @@
 -- `column::zeros_after` meets its contract. Assumes nothing.
 use mathlib.Core.Path.{refl}
 use native.Mathlib.Omega.{arith}
-use borrow.Author.Rules.{rules}
-use Rattle.column.specs.TruthLaws.{rest-none, rest-high, rest-low, rest-not}
+use Rattle.column.proofs.TruthLaws.{rest-none, rest-high, rest-low, rest-not}
 use Rattle.column.proofs.zeros_after.Goals as goal
 
 pub returns-then-hi-ne0 : goal.returns-then-hi-ne0

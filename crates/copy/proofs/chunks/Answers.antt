@@ -1,6 +1,5 @@
-use Rattle.copy.specs.Over.{copied_up_to}
 use Rattle.copy.specs.OverLaws.{copied_none, copied_all, copied_more, copied-length}
-use Prim.Native.Nat.{◌+◌, ◌-◌, ◌≤◌}
+use Prim.Native.Nat.{◌+◌, ◌-◌}
 use lib.ListN.{length}
 use mathlib.Core.Path.{◌≡◌, ◌∙◌, ap}
 use native.Mathlib.Omega.{arith}

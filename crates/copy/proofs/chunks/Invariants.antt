@@ -1,10 +1,7 @@
 use Rattle.copy.specs.Over.{copied_up_to}
-use Rattle.copy.specs.OverLaws.{copied_none, copied_all, copied_more, copied-length}
-use Prim.Native.Nat.{◌+◌, ◌-◌, ◌≤◌}
+use Prim.Native.Nat.{◌-◌, ◌≤◌}
 use lib.ListN.{length}
-use mathlib.Core.Path.{◌≡◌, ◌∙◌, ap}
-use native.Mathlib.Omega.{arith}
-use borrow.Author.Rules.{rules}
+use mathlib.Core.Path.{◌≡◌}
 use Rattle.copy.proofs.chunks.Given as goal
 
 abbrev pub invariant-loop-o : goal.invariant-loop-o

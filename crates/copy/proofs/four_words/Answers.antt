@@ -1,6 +1,5 @@
 use Rattle.copy.proofs.Overlap.{four-words}
 use native.Mathlib.Omega.{arith}
-use borrow.Author.Rules.{rules}
 use Rattle.copy.proofs.four_words.Goals as goal
 
 pub returns : goal.returns

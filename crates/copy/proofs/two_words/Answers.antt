@@ -1,6 +1,5 @@
 use Rattle.copy.proofs.Overlap.{two-words}
 use native.Mathlib.Omega.{arith}
-use borrow.Author.Rules.{rules}
 use Rattle.copy.proofs.two_words.Goals as goal
 
 pub returns : goal.returns

@@ -1,12 +1,8 @@
 -- `growth::next_size` meets its contract. The loop's invariant: `before` is the size after k steps, and `s` is none of those before. Assumes nothing.
 use Prim.Native.Nat.{◌-◌, ◌≤◌}
-use mathlib.Core.Path.{◌≡◌, refl, ◌∙◌}
+use mathlib.Core.Path.{◌≡◌}
 use mathlib.Core.Bool.{false}
-use native.Mathlib.Numerals.{add-one}
-use native.Mathlib.Omega.{arith}
-use borrow.Author.Tests.{ne_eqb}
-use Rattle.growth.specs.Growing.{start_size, sheet, next_size, size_after, reached_in}
-use Rattle.growth.specs.GrowthLaws.{none_more, sheet-is, size-reached, size_none}
+use Rattle.growth.specs.Growing.{size_after, reached_in}
 use Rattle.growth.proofs.next_size.Given as goal
 
 abbrev pub invariant-loop-k : goal.invariant-loop-k

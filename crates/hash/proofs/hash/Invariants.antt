@@ -1,6 +1,4 @@
-use Rattle.std.proofs.Common.{◌≡◌, ◌-◌, ◌*◌, ◌/◌, ◌<◌, ◌≤◌, length, refl, ⊎_elim, arith, rules}
-use Rattle.hash.proofs.Laws.{more-word, no_word}
-use Rattle.hash.proofs.Laws.{lane_a-more, lane_b-more, close}
+use Rattle.std.proofs.Common.{◌≡◌, ◌-◌, ◌*◌, ◌/◌, ◌<◌, ◌≤◌, length}
 use Rattle.hash.specs.Hash.{lane_a, lane_b}
 use Rattle.hash.proofs.hash.Given as goal
 

@@ -1,5 +1,4 @@
 use Rattle.hash.specs.Hash.{mixed}
-use Rattle.std.proofs.Common.{rules}
 use Rattle.hash.proofs.mix.Goals as goal
 
 pub returns : goal.returns

@@ -13,4 +13,4 @@ pub overflow_mul-al : goal.overflow_mul-al
 overflow_mul-al c = record { fits = below 32 (search rules) (search rules) }
 
 pub returns : goal.returns
-returns c = c.wrapping_add_u64.ensures ∙ product _ _
+returns c = c.wrapping_add_u64.ensures.value ∙ product _ _

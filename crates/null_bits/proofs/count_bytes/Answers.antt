@@ -1,9 +1,9 @@
 use lib.Count.{ones-le}
 use mathlib.Core.Path.{◌≡◌, refl}
-use Prim.Native.Nat.{◌+◌, ◌-◌, ◌*◌, ◌≤◌}
+use Prim.Native.Nat.{◌+◌, ◌*◌}
 use native.Mathlib.Omega.{arith}
 use Rattle.null_bits.specs.Bits.{count_valid}
-use Rattle.null_bits.specs.CountLaws.{count-le, count-is}
+use Rattle.null_bits.proofs.CountLaws.{count-le, count-is}
 use Rattle.null_bits.proofs.Laws.{count-more-byte}
 use Rattle.null_bits.proofs.count_bytes.Goals as goal
 

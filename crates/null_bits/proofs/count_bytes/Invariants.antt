@@ -1,10 +1,6 @@
-use lib.Count.{ones-le}
-use mathlib.Core.Path.{◌≡◌, refl}
-use Prim.Native.Nat.{◌+◌, ◌-◌, ◌*◌, ◌≤◌}
-use native.Mathlib.Omega.{arith}
+use mathlib.Core.Path.{◌≡◌}
+use Prim.Native.Nat.{◌-◌, ◌*◌, ◌≤◌}
 use Rattle.null_bits.specs.Bits.{count_valid}
-use Rattle.null_bits.specs.CountLaws.{count-le, count-is}
-use Rattle.null_bits.proofs.Laws.{count-more-byte}
 use Rattle.null_bits.proofs.count_bytes.Given as goal
 
 abbrev pub invariant-loop-k : goal.invariant-loop-k

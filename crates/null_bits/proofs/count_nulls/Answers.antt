@@ -1,7 +1,6 @@
 use mathlib.Core.Path.{sym}
-use Rattle.null_bits.specs.CountLaws.{nulls-valid, nulls-none}
+use Rattle.null_bits.proofs.CountLaws.{nulls-valid, nulls-none}
 use native.Mathlib.Omega.{arith}
-use borrow.Author.Rules.{rules}
 use Rattle.null_bits.proofs.count_nulls.Goals as goal
 
 pub count_valid-requires : goal.count_valid-requires

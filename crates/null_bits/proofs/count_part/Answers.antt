@@ -2,9 +2,8 @@ use Prim.Native.Nat.{◌/◌, ◌^◌}
 use native.Mathlib.Omega.{arith}
 use lib.ListN.{get_or}
 use lib.Pow.{pow_pos}
-use Rattle.null_bits.specs.CountLaws.{count-is}
+use Rattle.null_bits.proofs.CountLaws.{count-is}
 use Rattle.null_bits.proofs.Laws.{shl-one-32, part-is, part-le, count_at}
-use borrow.Author.Rules.{rules}
 use Rattle.null_bits.proofs.count_part.Goals as goal
 
 pub overflow_cast-part : goal.overflow_cast-part

@@ -2,9 +2,8 @@ use mathlib.Core.Path.{◌≡◌}
 use Prim.Native.Nat.{◌+◌, ◌*◌, ◌/◌, ◌%◌}
 use native.Mathlib.Omega.{arith}
 use Rattle.null_bits.specs.Bits.{count_valid}
-use Rattle.null_bits.specs.CountLaws.{count-is}
+use Rattle.null_bits.proofs.CountLaws.{count-is}
 use Rattle.null_bits.proofs.Laws.{count-three, count-four, cut}
-use borrow.Author.Rules.{rules}
 use Rattle.null_bits.proofs.count_valid.Goals as goal
 
 pub returns-then-rows-eq0 : goal.returns-then-rows-eq0

@@ -2,7 +2,6 @@ use Rattle.null_bits.specs.Bits.{bit_at, is_valid}
 use Prim.Native.Nat.{◌/◌}
 use mathlib.Core.Path.{refl}
 use native.Mathlib.Omega.{arith}
-use borrow.Author.Rules.{rules}
 use Rattle.null_bits.proofs.is_valid.Goals as goal
 
 pub overflow_cast-result : goal.overflow_cast-result

@@ -6,7 +6,6 @@ use Rattle.null_bits.specs.Bits.{put_bit}
 use Rattle.null_bits.proofs.Laws.{shl_one as shl-one-is, put-null, put-valid, put-fits}
 use Prim.Native.Nat.{◌/◌}
 use native.Mathlib.Omega.{arith}
-use borrow.Author.Rules.{rules}
 use Rattle.null_bits.proofs.put_bit.Goals as goal
 
 pub overflow_cast-kept : goal.overflow_cast-kept

@@ -1,7 +1,4 @@
-use mathlib.Core.Path.{◌≡◌, ◌∙◌}
-use lib.ListN.{length}
-use Prim.Native.Nat.{◌-◌, ◌≤◌, min}
-use Rattle.order.specs.Order.{Agree}
+use mathlib.Core.Path.{◌∙◌}
 use Rattle.order.proofs.Laws.{byte-same, byte-decides, lengths-decide}
 use native.Mathlib.Omega.{arith}
 use borrow.Author.Rules.{rules}

@@ -1,10 +1,7 @@
-use mathlib.Core.Path.{◌≡◌, ◌∙◌}
+use mathlib.Core.Path.{◌≡◌}
 use lib.ListN.{length}
 use Prim.Native.Nat.{◌-◌, ◌≤◌, min}
 use Rattle.order.specs.Order.{Agree}
-use Rattle.order.proofs.Laws.{byte-same, byte-decides, lengths-decide}
-use native.Mathlib.Omega.{arith}
-use borrow.Author.Rules.{rules}
 use Rattle.order.proofs.by_bytes.Given as goal
 
 abbrev pub invariant-loop-i : goal.invariant-loop-i

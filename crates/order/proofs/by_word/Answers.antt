@@ -1,4 +1,4 @@
-use Rattle.order.specs.OrderLaws.{compare-lt, compare-gt, compare-eq}
+use Rattle.order.proofs.OrderLaws.{compare-lt, compare-gt, compare-eq}
 use mathlib.Core.Path.{sym}
 use native.Mathlib.Omega.{arith}
 use Rattle.order.proofs.by_word.Goals as goal

@@ -1,7 +1,6 @@
 -- `order::by_words` meets its contract. Assumes nothing.
-use mathlib.Core.Path.{◌≡◌, ◌∙◌}
-use lib.ListN.{length}
-use Prim.Native.Nat.{◌-◌, ◌≤◌, min}
+use mathlib.Core.Path.{◌∙◌}
+use Prim.Native.Nat.{◌-◌}
 use Rattle.order.specs.Order.{Agree}
 use Rattle.order.proofs.Laws.{word_same, word-decides, lengths-decide}
 use Rattle.words.specs.Words.{Bytes}

@@ -1,12 +1,8 @@
 -- `order::by_words` meets its contract. Assumes nothing.
-use mathlib.Core.Path.{◌≡◌, ◌∙◌}
+use mathlib.Core.Path.{◌≡◌}
 use lib.ListN.{length}
 use Prim.Native.Nat.{◌-◌, ◌≤◌, min}
 use Rattle.order.specs.Order.{Agree}
-use Rattle.order.proofs.Laws.{word_same, word-decides, lengths-decide}
-use Rattle.words.specs.Words.{Bytes}
-use native.Mathlib.Omega.{arith}
-use borrow.Author.Rules.{rules}
 use Rattle.order.proofs.by_words.Given as goal
 
 abbrev pub invariant-loop-i : goal.invariant-loop-i

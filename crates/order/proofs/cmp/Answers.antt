@@ -1,7 +1,6 @@
 use mathlib.Core.Path.{◌∙◌}
 use Rattle.order.proofs.Laws.{word-decides, word_same}
 use native.Mathlib.Omega.{arith}
-use borrow.Author.Rules.{rules}
 use Rattle.order.proofs.cmp.Goals as goal
 
 pub returns-then-x-y : goal.returns-then-x-y

@@ -2,7 +2,6 @@ use Rattle.order.specs.Order.{short_order}
 use mathlib.Core.Path.{◌∙◌}
 use Rattle.order.proofs.Laws.{eight-differ, eight-equal}
 use native.Mathlib.Omega.{arith}
-use borrow.Author.Rules.{rules}
 use Rattle.order.proofs.cmp_short.Goals as goal
 
 pub returns-then-x-y : goal.returns-then-x-y

@@ -1,7 +1,6 @@
-use Rattle.order.specs.OrderLaws.{same-no}
+use Rattle.order.proofs.OrderLaws.{same-no}
 use lib.ListN.{length}
 use mathlib.Core.Path.{ap, sym}
-use borrow.Author.Rules.{rules}
 use Rattle.order.proofs.same.Goals as goal
 
 pub returns-then-n-b : goal.returns-then-n-b

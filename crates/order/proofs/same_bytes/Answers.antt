@@ -1,9 +1,8 @@
 use mathlib.Core.Path.{refl, ap, sym}
 use mathlib.Core.List.{List}
 use lib.ListN.{get_or}
-use Prim.Native.Nat.{ℕ, ◌-◌, ◌≤◌}
-use Rattle.order.specs.Order.{Agree}
-use Rattle.order.specs.OrderLaws.{same-no, same-yes}
+use Prim.Native.Nat.{ℕ}
+use Rattle.order.proofs.OrderLaws.{same-no, same-yes}
 use Rattle.order.proofs.Laws.{byte-same, same-all}
 use native.Mathlib.Omega.{arith}
 use borrow.Author.Rules.{rules}

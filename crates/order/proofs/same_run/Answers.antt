@@ -1,7 +1,5 @@
 use Rattle.order.proofs.Laws.{block_more_lem, block_same}
-use Rattle.order.specs.Order.{Agree}
 use borrow.Author.Tests.{eq-eqb, eqb-true}
-use Prim.Native.Nat.{◌-◌, ◌≤◌}
 use mathlib.Core.Path.{◌≡◌, refl}
 use native.Mathlib.Omega.{arith}
 use borrow.Author.Rules.{rules}

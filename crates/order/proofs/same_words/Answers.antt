@@ -1,11 +1,10 @@
-use Rattle.order.specs.OrderLaws.{same-is}
+use Rattle.order.proofs.OrderLaws.{same-is}
 use borrow.Author.Tests.{eq-eqb, eqb-true}
 use mathlib.Core.Path.{ap, sym, ◌∙◌}
 use mathlib.Core.List.{List}
-use Prim.Native.Nat.{ℕ, ◌-◌, ◌≤◌}
-use Rattle.order.specs.Order.{Agree}
+use Prim.Native.Nat.{ℕ, ◌-◌}
 use Rattle.words.specs.Words.{word_at}
-use Rattle.order.specs.OrderLaws.{same-no}
+use Rattle.order.proofs.OrderLaws.{same-no}
 use Rattle.order.proofs.Laws.{le_same, same-all}
 use native.Mathlib.Omega.{arith}
 use borrow.Author.Rules.{rules}

@@ -1,8 +1,4 @@
-use borrow.Author.Tests.{not-false}
 use Rattle.order.proofs.Laws.{agree-next}
-use Rattle.order.specs.Order.{Agree}
-use Prim.Native.Nat.{◌-◌, ◌≤◌, ◌<◌}
-use lib.ListN.{length}
 use borrow.Author.Rules.{rules}
 use Rattle.order.proofs.skip.Goals as goal
 

@@ -1,9 +1,6 @@
-use borrow.Author.Tests.{not-false}
-use Rattle.order.proofs.Laws.{agree-next}
 use Rattle.order.specs.Order.{Agree}
 use Prim.Native.Nat.{◌-◌, ◌≤◌, ◌<◌}
 use lib.ListN.{length}
-use borrow.Author.Rules.{rules}
 use Rattle.order.proofs.skip.Given as goal
 
 abbrev pub invariant-loop-i : goal.invariant-loop-i

@@ -1,8 +1,5 @@
 -- `utf8::ascii` meets its contract. Assumes nothing.
-use Prim.Native.Nat.{◌-◌}
 use native.Mathlib.Omega.{arith}
-use lib.ListN.{length}
-use Rattle.utf8.specs.Lead.{Passed}
 use Rattle.utf8.proofs.Laws.{ascii-one, moved}
 use Rattle.utf8.proofs.ascii.Goals as goal
 

@@ -1,9 +1,7 @@
 -- `utf8::ascii` meets its contract. Assumes nothing.
 use Prim.Native.Nat.{◌-◌}
-use native.Mathlib.Omega.{arith}
 use lib.ListN.{length}
 use Rattle.utf8.specs.Lead.{Passed}
-use Rattle.utf8.proofs.Laws.{ascii-one, moved}
 use Rattle.utf8.proofs.ascii.Given as goal
 
 abbrev pub invariant-loop-i : goal.invariant-loop-i

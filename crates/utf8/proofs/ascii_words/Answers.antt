@@ -1,10 +1,7 @@
 -- `utf8::ascii_words` meets its contract. Assumes nothing.
-use Prim.Native.Nat.{◌-◌}
 use mathlib.Core.Path.{refl}
 use native.Mathlib.Omega.{arith}
-use lib.ListN.{length}
 use Rattle.words.specs.Words.{Bytes}
-use Rattle.utf8.specs.Lead.{Passed}
 use Rattle.utf8.proofs.Laws.{sixteen}
 use Rattle.utf8.proofs.ascii_words.Goals as goal
 

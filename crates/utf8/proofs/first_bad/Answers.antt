@@ -1,10 +1,7 @@
 -- `utf8::first_bad` meets its contract. Assumes nothing.
-use Rattle.utf8.specs.Table.{walk}
-use Rattle.utf8.specs.First.{first_walk}
-use Prim.Native.Nat.{◌+◌, ◌-◌, ◌≤◌}
-use lib.ListN.{length, drop}
+use Rattle.utf8.proofs.First.{first_walk}
 use Rattle.utf8.proofs.Laws.{bad-step, bad-here, bad-end}
-use mathlib.Core.Path.{◌≡◌, sym, ◌∙◌}
+use mathlib.Core.Path.{sym, ◌∙◌}
 use native.Mathlib.Omega.{arith}
 use borrow.Author.Rules.{rules}
 use Rattle.utf8.proofs.first_bad.Goals as goal

@@ -2,8 +2,6 @@
 use mathlib.Core.Path.{◌≡◌, sym, ◌∙◌}
 use Prim.Native.Nat.{◌+◌}
 use native.Mathlib.Omega.{arith}
-use borrow.Author.Rules.{rules}
-use borrow.Author.Tests.{not-true, not-false}
 use Rattle.utf8.proofs.Laws.{nexts-on, nexts-end, nexts-last}
 use Rattle.utf8.proofs.goes_on.Goals as goal
 

@@ -1,6 +1,5 @@
 -- `utf8::is_utf8` meets its contract. Assumes nothing.
-use borrow.Author.Rules.{rules}
-use Rattle.utf8.specs.First.{formed-end}
+use Rattle.utf8.proofs.First.{formed-end}
 use Rattle.utf8.proofs.is_utf8.Goals as goal
 
 pub returns : goal.returns

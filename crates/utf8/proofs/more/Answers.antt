@@ -1,8 +1,6 @@
 -- `utf8::more` meets its contract. Assumes nothing.
 use mathlib.Core.Path.{sym, ◌∙◌}
 use native.Mathlib.Omega.{arith}
-use borrow.Author.Rules.{rules}
-use borrow.Author.Tests.{not-true, not-false}
 use Rattle.utf8.specs.Table.{◌‥◌}
 use Rattle.utf8.specs.Text.{past-and}
 use Rattle.utf8.proofs.Laws.{too_few, led-more}

@@ -1,7 +1,6 @@
 -- `views::behind` meets its contract. Assumes nothing.
 use native.Mathlib.Omega.{arith}
 use Rattle.views.proofs.PartLaws.{none-behind, some-behind}
-use borrow.Author.Rules.{rules}
 use Rattle.views.proofs.behind.Goals as goal
 
 pub returns-then-n-le4 : goal.returns-then-n-le4

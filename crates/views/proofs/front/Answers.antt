@@ -4,7 +4,6 @@ use Prim.Native.Nat.{ℕ, ◌*◌, ◌%◌, ◌^◌}
 use mathlib.Core.Path.{ap, ◌∙◌}
 use native.Mathlib.Omega.{arith}
 use Rattle.views.proofs.PartLaws.{one_shifted, front-lt}
-use borrow.Author.Rules.{rules}
 use Rattle.views.proofs.front.Goals as goal
 
 pub nonzero_rem-result : goal.nonzero_rem-result

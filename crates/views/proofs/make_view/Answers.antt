@@ -5,7 +5,6 @@ use Rattle.bounds.specs.Bounds.{byte-limit-is}
 use Rattle.words.specs.Words.{pad}
 use Rattle.views.specs.View.{make_view, zero_view}
 use Rattle.views.specs.ViewLaws.{made-refused, made-accepted, view-whole, length-make}
-use borrow.Author.Rules.{rules}
 use Rattle.views.proofs.make_view.Goals as goal
 
 pub returns-then-v-gt-BYTE_LIMIT : goal.returns-then-v-gt-BYTE_LIMIT

@@ -3,7 +3,6 @@ use Rattle.views.specs.View.{make_view}
 use lib.ListN.{length}
 use borrow.Author.Tests.{le-leb, lt-leb}
 use native.Mathlib.Omega.{arith}
-use borrow.Author.Rules.{rules}
 use Rattle.views.proofs.put_view.Goals as goal
 
 pub returns-then-v-le-SHORT_MOST : goal.returns-then-v-le-SHORT_MOST

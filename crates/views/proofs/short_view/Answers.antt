@@ -1,7 +1,6 @@
 -- `views::short_view` meets its contract. Assumes nothing.
 use Rattle.views.proofs.Laws.{two-words}
 use native.Mathlib.Omega.{arith}
-use borrow.Author.Rules.{rules}
 use Rattle.views.proofs.short_view.Goals as goal
 
 pub returns : goal.returns

@@ -7,7 +7,6 @@ use Rattle.words.specs.Words.{Bytes}
 use Rattle.words.specs.ListLaws.{bytes-part}
 use Rattle.views.proofs.Laws.{two-words}
 use Rattle.views.proofs.PartLaws.{part_length, part-front, part-behind}
-use borrow.Author.Rules.{rules}
 use Rattle.views.proofs.short_view_in.Goals as goal
 
 pub returns : goal.returns

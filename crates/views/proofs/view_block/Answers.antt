@@ -1,7 +1,6 @@
 -- `views::view_block` meets its contract. Assumes nothing.
 use mathlib.Core.Path.{sym, ◌∙◌}
 use Rattle.views.specs.ViewLaws.{block_at}
-use borrow.Author.Rules.{rules}
 use Rattle.views.proofs.view_block.Goals as goal
 
 pub returns : goal.returns

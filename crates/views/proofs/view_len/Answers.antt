@@ -1,7 +1,6 @@
 -- `views::view_len` meets its contract. Assumes nothing.
 use mathlib.Core.Path.{sym, ◌∙◌}
 use Rattle.views.specs.ViewLaws.{length_at}
-use borrow.Author.Rules.{rules}
 use Rattle.views.proofs.view_len.Goals as goal
 
 pub returns : goal.returns

@@ -1,7 +1,6 @@
 -- `views::view_offset` meets its contract. Assumes nothing.
 use mathlib.Core.Path.{sym, ◌∙◌}
 use Rattle.views.specs.ViewLaws.{offset_at_lem}
-use borrow.Author.Rules.{rules}
 use Rattle.views.proofs.view_offset.Goals as goal
 
 pub returns : goal.returns

@@ -4,7 +4,6 @@ use Prim.Native.Nat.{◌+◌, ◌*◌, ◌-◌}
 use lib.Pow.{shr_le}
 use Rattle.views.proofs.Laws.{rest-none, rest-is}
 use native.Mathlib.Omega.{arith}
-use borrow.Author.Rules.{rules}
 use Rattle.views.proofs.words_of.Goals as goal
 
 pub returns-then-n-lt4 : goal.returns-then-n-lt4

@@ -1,7 +1,6 @@
 -- `views::zero_view` meets its contract. Assumes nothing.
 use native.Mathlib.Omega.{arith}
 use Rattle.views.proofs.Laws.{zero-words}
-use borrow.Author.Rules.{rules}
 use Rattle.views.proofs.zero_view.Goals as goal
 
 pub returns : goal.returns

@@ -1,6 +1,5 @@
 use native.Mathlib.Omega.{arith}
 use Rattle.words.specs.WordLaws.{be8}
-use borrow.Author.Rules.{rules}
 use Rattle.words.proofs.be64.Goals as goal
 
 pub returns : goal.returns

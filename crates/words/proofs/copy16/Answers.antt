@@ -1,6 +1,5 @@
 use native.Mathlib.Omega.{arith}
 use Rattle.words.specs.ListLaws.{put_two}
-use borrow.Author.Rules.{rules}
 use Rattle.words.proofs.copy16.Goals as goal
 
 pub returns : goal.returns

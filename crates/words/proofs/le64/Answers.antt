@@ -1,6 +1,5 @@
 use native.Mathlib.Omega.{arith}
 use Rattle.words.specs.WordLaws.{le8}
-use borrow.Author.Rules.{rules}
 use Rattle.words.proofs.le64.Goals as goal
 
 pub returns : goal.returns

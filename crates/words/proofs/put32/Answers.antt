@@ -1,7 +1,6 @@
 use Rattle.words.specs.WordLaws.{put4}
 use lib.ListN.{length-set}
 use native.Mathlib.Omega.{arith}
-use borrow.Author.Rules.{rules}
 use Rattle.words.proofs.put32.Goals as goal
 
 pub bounds-b-i-2 : goal.bounds-b-i-2

@@ -1,5 +1,4 @@
 use Rattle.words.specs.WordLaws.{put8}
-use borrow.Author.Rules.{rules}
 use Rattle.words.proofs.put64.Goals as goal
 
 pub returns : goal.returns

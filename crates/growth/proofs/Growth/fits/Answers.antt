@@ -4,7 +4,6 @@ use lib.Dec.{leb}
 use native.Mathlib.Omega.{arith}
 use Rattle.bounds.specs.Bounds.{byte-limit-is}
 use Rattle.growth.specs.GrowthLaws.{fixed_zero, fixed-is, doubling-is, size-some}
-use borrow.Author.Rules.{rules}
 use Rattle.growth.proofs.Growth.fits.Goals as goal
 
 pub returns-then-n-lt1 : goal.returns-then-n-lt1

@@ -1,7 +1,6 @@
 -- `Growth::step` meets its contract. Assumes nothing.
 use mathlib.Core.Path.{sym, ◌∙◌}
 use Rattle.growth.specs.GrowthLaws.{not-true, not-false, doubling-is, step-refused, step-fixed, step-doubling, size-next}
-use borrow.Author.Rules.{rules}
 use Rattle.growth.proofs.Growth.step.Goals as goal
 
 pub returns-then-not-fits : goal.returns-then-not-fits

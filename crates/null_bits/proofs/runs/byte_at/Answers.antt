@@ -1,7 +1,6 @@
 use Prim.Native.Nat.{◌+◌, ◌/◌}
 use Rattle.null_bits.proofs.ByteLaws.{read_whole, read-split}
 use native.Mathlib.Omega.{arith}
-use borrow.Author.Rules.{rules}
 use Rattle.null_bits.proofs.runs.byte_at.Goals as goal
 
 pub overflow_cast-low : goal.overflow_cast-low

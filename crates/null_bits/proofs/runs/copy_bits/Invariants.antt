@@ -1,12 +1,8 @@
-use mathlib.Core.Path.{ap}
-use Rattle.null_bits.proofs.ByteLaws.{next-byte, run-rest}
 use Rattle.null_bits.specs.Runs.{put_bits}
 use Rattle.null_bits.specs.Bits.{is_valid}
 use lib.ListN.{length}
-use native.Mathlib.Nat.{add_assoc}
 use Prim.Native.Nat.{◌≤◌, ◌-◌, ◌+◌}
-use mathlib.Core.Path.{◌≡◌, refl, ◌∙◌}
-use borrow.Author.Rules.{rules}
+use mathlib.Core.Path.{◌≡◌}
 use Rattle.null_bits.proofs.runs.copy_bits.Given as goal
 
 abbrev pub invariant-loop-k : goal.invariant-loop-k

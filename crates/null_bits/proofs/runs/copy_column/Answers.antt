@@ -1,6 +1,5 @@
 use mathlib.Core.Path.{◌∙◌}
-use Rattle.null_bits.specs.RunLaws.{column-map, column-none}
-use borrow.Author.Rules.{rules}
+use Rattle.null_bits.proofs.RunLaws.{column-map, column-none}
 use Rattle.null_bits.proofs.runs.copy_column.Goals as goal
 
 pub copy_bits-requires : goal.copy_bits-requires

@@ -1,10 +1,7 @@
-use Rattle.null_bits.specs.Runs.{put_bits, copy_bits}
-use lib.ListN.{length}
+use Rattle.null_bits.specs.Runs.{put_bits}
 use native.Mathlib.Numerals.{add-one}
-use Prim.Native.Nat.{◌≤◌, ◌-◌}
 use mathlib.Core.Path.{◌≡◌, refl, ◌∙◌}
 use native.Mathlib.Omega.{arith}
-use borrow.Author.Rules.{rules}
 use Rattle.null_bits.proofs.runs.copy_few.Goals as goal
 
 pub loop-k-init : goal.loop-k-init
@@ -16,7 +13,7 @@ unfolding put_bits
 loop-k-preserved c =
     let l = c.loop-k in (
       omega arith,
-      c.put_bit.auto.0 ∙ l.invariant.1,
+      c.put_bit.auto.map ∙ l.invariant.1,
       rw (add-one l.k) (c.put_bit.ensures
           ∙ rw (l.invariant.2, c.is_valid.ensures)),
     )

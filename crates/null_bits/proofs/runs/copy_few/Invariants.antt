@@ -1,10 +1,7 @@
-use Rattle.null_bits.specs.Runs.{put_bits, copy_bits}
+use Rattle.null_bits.specs.Runs.{copy_bits}
 use lib.ListN.{length}
-use native.Mathlib.Numerals.{add-one}
 use Prim.Native.Nat.{◌≤◌, ◌-◌}
-use mathlib.Core.Path.{◌≡◌, refl, ◌∙◌}
-use native.Mathlib.Omega.{arith}
-use borrow.Author.Rules.{rules}
+use mathlib.Core.Path.{◌≡◌}
 use Rattle.null_bits.proofs.runs.copy_few.Given as goal
 
 abbrev pub invariant-loop-k : goal.invariant-loop-k

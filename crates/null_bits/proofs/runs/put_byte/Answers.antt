@@ -5,16 +5,12 @@ use lib.ListN.{get_or, length-set}
 use Prim.Native.Nat.{◌/◌, ◌%◌, ◌-◌}
 use Rattle.null_bits.proofs.ByteLaws.{byte-whole, byte_split}
 use native.Mathlib.Omega.{arith}
-use borrow.Author.Rules.{rules}
 use Rattle.null_bits.proofs.runs.put_byte.Goals as goal
 
 pub returns-then-pos-eq0 : goal.returns-then-pos-eq0
 returns-then-pos-eq0 c =
     let a = c.args in
     byte-whole a.map.now a.row a.x (omega arith) c.if-pos-eq0.true (omega arith)
-
-pub overflow_cast-kept : goal.overflow_cast-kept
-overflow_cast-kept c = omega (arith, c.type_inv.map (c.args.row / 8))
 
 pub overflow_sub-kept : goal.overflow_sub-kept
 overflow_sub-kept c =

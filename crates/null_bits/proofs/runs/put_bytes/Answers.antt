@@ -1,10 +1,8 @@
 use Rattle.null_bits.proofs.ByteLaws.{length-bytes, bytes-none, bytes-more}
-use Rattle.null_bits.specs.Runs.{put_bytes}
 use lib.ListN.{length}
-use Prim.Native.Nat.{◌+◌, ◌≤◌, ◌-◌}
+use Prim.Native.Nat.{◌+◌}
 use mathlib.Core.Path.{◌≡◌, refl, ap, ◌∙◌}
 use native.Mathlib.Omega.{arith}
-use borrow.Author.Rules.{rules}
 use Rattle.null_bits.proofs.runs.put_bytes.Goals as goal
 
 pub loop-k-init : goal.loop-k-init

@@ -1,10 +1,7 @@
-use Rattle.null_bits.proofs.ByteLaws.{length-bytes, bytes-none, bytes-more}
 use Rattle.null_bits.specs.Runs.{put_bytes}
 use lib.ListN.{length}
-use Prim.Native.Nat.{◌+◌, ◌≤◌, ◌-◌}
-use mathlib.Core.Path.{◌≡◌, refl, ap, ◌∙◌}
-use native.Mathlib.Omega.{arith}
-use borrow.Author.Rules.{rules}
+use Prim.Native.Nat.{◌≤◌, ◌-◌}
+use mathlib.Core.Path.{◌≡◌}
 use Rattle.null_bits.proofs.runs.put_bytes.Given as goal
 
 abbrev pub invariant-loop-k : goal.invariant-loop-k

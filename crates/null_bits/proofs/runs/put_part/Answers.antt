@@ -5,15 +5,11 @@ use Rattle.null_bits.specs.Runs.{put_bits}
 use lib.ListN.{get_or}
 use Prim.Native.Nat.{◌/◌, ◌%◌}
 use native.Mathlib.Omega.{arith}
-use borrow.Author.Rules.{rules}
 use Rattle.null_bits.proofs.runs.put_part.Goals as goal
 
 pub returns-then-n-eq0 : goal.returns-then-n-eq0
 unfolding put_bits
 returns-then-n-eq0 c = rw c.if-n-eq0.true
-
-pub overflow_cast-kept : goal.overflow_cast-kept
-overflow_cast-kept c = omega (arith, c.type_inv.map (c.args.row / 8))
 
 pub overflow_sub-kept : goal.overflow_sub-kept
 overflow_sub-kept c =

@@ -1,7 +1,6 @@
 use Rattle.null_bits.proofs.ByteLaws.{part-run, run_of}
 use Prim.Native.Nat.{◌-◌, ◌%◌}
 use native.Mathlib.Omega.{arith}
-use borrow.Author.Rules.{rules}
 use Rattle.null_bits.proofs.runs.put_run.Goals as goal
 
 pub returns-then-rows-gap : goal.returns-then-rows-gap

@@ -9,8 +9,8 @@ use Rattle.std.proofs.Math.Decide.{ℕ_discrete}
 use Rattle.std.proofs.Math.ListN.{length}
 use Rattle.null_bits.specs.Bits.{is_valid, valid_at, null_of, count_nulls, put_bit}
 use Rattle.null_bits.specs.Runs.{put_bits, put_run, copy_bits, copy_column}
-use Rattle.null_bits.specs.CountLaws.{valid-map}
-use Rattle.null_bits.specs.PutLaws.{length-put-bit, valid-put-same, valid-put-before}
+use Rattle.null_bits.proofs.CountLaws.{valid-map}
+use Rattle.null_bits.proofs.PutLaws.{length-put-bit, valid-put-same, valid-put-before}
 
 pub length-bits : (map : List ℕ) (first : ℕ) (bits : ℕ → Bool) (n : ℕ) → length (put_bits map first bits n) ≡ length map
 unfolding put_bits

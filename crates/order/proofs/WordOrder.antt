@@ -5,7 +5,7 @@ use Prim.Native.Nat.{ℕ, zero, suc, ◌+◌, ◌*◌, ◌≤◌, ◌<◌, compa
 use Rattle.words.specs.Words.{Bytes, word_at, be_at}
 use Rattle.words.specs.ListLaws.{be-part, bytes-part}
 use Rattle.order.specs.Order.{thenby, cmp, short_order}
-use Rattle.order.specs.OrderLaws.{compare-lt, compare-gt, compare-eq, Tri, below, level, above, tri}
+use Rattle.order.proofs.OrderLaws.{compare-lt, compare-gt, compare-eq, Tri, below, level, above, tri}
 
 assoc : (c o p : Ordering) → thenby (thenby c o) p ≡ thenby c (thenby o p)
 assoc Ordering.lt o p = refl

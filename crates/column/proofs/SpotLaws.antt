@@ -19,8 +19,8 @@ use Rattle.column.specs.Room.{bare, InRoom}
 use Rattle.column.specs.Meaning.{bytes_of, blocks_of, shown}
 use Rattle.column.specs.Spot.{spot_of, spot_in, bytes_at, points_to, Lies, Names}
 use Rattle.column.specs.Truth.{reach_by, reach_of, is_inside, reachable}
-use Rattle.column.specs.FitLaws.{and_no, table_at}
-use Rattle.column.specs.ReachLaws.{Spans, reach-spans, take_inner, shown-short-at}
+use Rattle.column.proofs.FitLaws.{and_no, table_at}
+use Rattle.column.proofs.ReachLaws.{Spans, reach-spans, take_inner, shown-short-at}
 
 -- ---- test by test, the numbers as the code has them
 

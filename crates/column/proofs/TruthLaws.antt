@@ -18,7 +18,7 @@ use Rattle.column.specs.declared.Kind.{Kind}
 use Rattle.column.specs.Lent.{Lent}
 use Rattle.column.specs.Meaning.{blocks_of, shown}
 use Rattle.column.specs.Truth.{zeros, honest, reachable, of_kind, is_true}
-use Rattle.column.specs.FitLaws.{and_left, and_right}
+use Rattle.column.proofs.FitLaws.{and_left, and_right}
 
 pub eqb_same : (a b p q : ℕ) → (a ≡ b → p ≡ q) → (p ≡ q → a ≡ b) → eqb a b ≡ eqb p q
 eqb_same a b p q f g = by (eqb p q) refl

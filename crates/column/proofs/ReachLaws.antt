@@ -19,7 +19,7 @@ use Rattle.column.specs.Meaning.{bytes_of, blocks_of, shown}
 use Rattle.column.specs.declared.Spot.TheVariants as spot
 use Rattle.column.specs.Spot.{spot_of, spot_in}
 use Rattle.column.specs.Truth.{reach_by, reach_of, is_inside, reachable}
-use Rattle.column.specs.FitLaws.{table_at, block-in-data, in-data-gives, and_left, and_right}
+use Rattle.column.proofs.FitLaws.{table_at, block-in-data, in-data-gives, and_left, and_right}
 
 -- ---- test by test, over any table
 

@@ -1,0 +1,5 @@
+pub mod FitLaws
+pub mod ReachLaws
+pub mod SpotLaws
+pub mod TruthLaws
+pub mod LowestLaws

@@ -1,2 +1,2 @@
-pub mod AskLook
+pub mod WalkLaws
 pub mod Second

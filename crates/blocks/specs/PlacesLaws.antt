@@ -16,8 +16,8 @@ use Rattle.views.specs.View.{view_size, view_at}
 use Rattle.column.specs.declared.Block.{Block}
 use Rattle.column.specs.declared.Column.{Column}
 use Rattle.column.specs.Lent.{Lent, buffers, block, block_at, fits, in_data, data_room, all_in_data}
-use Rattle.column.specs.FitLaws.{and_no}
-use Rattle.column.specs.LowestLaws.{lowest-none, lowest-bad}
+use Rattle.column.proofs.FitLaws.{and_no}
+use Rattle.column.proofs.LowestLaws.{lowest-none, lowest-bad}
 use Rattle.column.specs.Spot.{Names}
 use Rattle.column.specs.Truth.{is_true, true_at}
 use Rattle.validity.specs.Check.{why_invalid}

@@ -1,5 +1,5 @@
 // The block table lent as a slice of records, as document 01 has it: the record of a block, what a row sees of the table, and reading over it.
-// A function that has the table is proved by hand, so each is thin: it asks `look` what the row sees, and a function over numbers does the work.
+// A function that has the table is thin: it asks `look` what the row sees, and a function over numbers does the work.
 #![tactic(auto)]
 
 ghost use Rattle.std.specs.Prelude.{◌≡◌, true, List, ℕ, ◌+◌, ◌*◌, ◌≤◌, length, get_or};

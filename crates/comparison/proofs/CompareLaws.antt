@@ -10,10 +10,10 @@ use Rattle.column.specs.declared.Kind.{Kind}
 use Rattle.column.specs.declared.Column.{Column}
 use Rattle.column.specs.Lent.{Lent, fits}
 use Rattle.column.specs.Meaning.{row_view, blocks_of, shown, shown_at}
-use Rattle.column.specs.FitLaws.{and_left}
+use Rattle.column.proofs.FitLaws.{and_left}
 use Rattle.column.specs.Truth.{reachable, is_true, true_at}
-use Rattle.reading.specs.ReadingLaws.{value-reached}
-use Rattle.showing.specs.Shows.{view-size}
+use Rattle.reading.proofs.ReadingLaws.{value-reached}
+use Rattle.showing.proofs.ShowsLaws.{view-size}
 use Rattle.showing.specs.Truths.{true-row}
 use Rattle.showing.specs.Padded.{rows-compare}
 use Rattle.comparison.specs.declared.Verdict.TheVariants.{Accepted}

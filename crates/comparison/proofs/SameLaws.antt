@@ -8,7 +8,7 @@ use native.Mathlib.Numerals.{add-one}
 use native.Mathlib.Omega.{arith}
 use borrow.Author.Tests.{not-false, eq-eqb, ne_eqb}
 use Rattle.order.specs.Order.{same}
-use Rattle.order.specs.OrderLaws.{Tri, tri, below, level, above}
+use Rattle.order.proofs.OrderLaws.{Tri, tri, below, level, above}
 use Rattle.null_bits.specs.Bits as bits
 use Rattle.bounds.specs.Refusals.{refuse, is_accepted, accepted-both}
 use Rattle.bounds.specs.declared.Refusal.{Refusal}
@@ -18,10 +18,10 @@ use Rattle.bounds.specs.declared.Why.TheVariants as why
 use Rattle.column.specs.declared.Column.{Column}
 use Rattle.column.specs.Lent.{Lent, lent, fits, in_data, data_room}
 use Rattle.column.specs.Room.{bare}
-use Rattle.column.specs.FitLaws.{fits_gives}
+use Rattle.column.proofs.FitLaws.{fits_gives}
 use Rattle.column.specs.Meaning.{shown_at, row_valid, row_view, blocks_of, shown}
 use Rattle.column.specs.Truth.{reach_of, reachable, reachable_at, lowest}
-use Rattle.column.specs.LowestLaws.{lowest-good}
+use Rattle.column.proofs.LowestLaws.{lowest-good}
 use Rattle.comparison.specs.declared.Verdict.{Verdict}
 use Rattle.comparison.specs.declared.Verdict.TheVariants.{Accepted, Left, Right}
 use Rattle.comparison.specs.declared.Sameness.TheVariants as sameness

@@ -16,19 +16,19 @@ use Rattle.words.specs.Words.{Bytes, be_at}
 use Rattle.order.specs.declared.Order.{Order}
 use Rattle.order.specs.declared.Order.TheVariants.{Less, Equal, Greater}
 use Rattle.order.specs.Order.{ordering, thenby, cmp, short_order}
-use Rattle.order.specs.WordOrder.{four-first, four-short}
+use Rattle.order.proofs.WordOrder.{four-first, four-short}
 use Rattle.views.specs.View.{view_size, view_at, length_of, body_of, prefix_of, is_short}
 use Rattle.views.specs.ViewLaws.{length-view}
 use Rattle.column.specs.declared.Block.{Block}
 use Rattle.column.specs.declared.Column.{Column}
 use Rattle.column.specs.Lent.{Lent, lent, buffers, fits}
-use Rattle.column.specs.FitLaws.{fits-row, fits-view}
-use Rattle.column.specs.ReachLaws.{reachable-bare}
+use Rattle.column.proofs.FitLaws.{fits-row, fits-view}
+use Rattle.column.proofs.ReachLaws.{reachable-bare}
 use Rattle.column.specs.Meaning.{row_view, blocks_of, shown, shown_at}
 use Rattle.column.specs.Truth.{reachable_at}
 use Rattle.reading.specs.Reading.{why_value, value_at}
-use Rattle.reading.specs.ReadingLaws.{value-readable}
-use Rattle.reading.specs.WalkLaws.{value-shown}
+use Rattle.reading.proofs.ReadingLaws.{value-readable}
+use Rattle.reading.proofs.WalkLaws.{value-shown}
 use Rattle.comparison.specs.declared.Compared.TheVariants as compared
 use Rattle.comparison.specs.declared.Verdict.{Verdict}
 use Rattle.comparison.specs.declared.Verdict.TheVariants.{Accepted, Left, Right}

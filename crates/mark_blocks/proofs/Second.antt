@@ -1,5 +1,5 @@
--- No second answer to either call over records. What each promises is the fact that it looks like, by the clauses that the toolchain makes of a function
--- that is walked by hand, and that fact has one answer. Assumes nothing.
+-- No second answer to either call over records. What each promises is the fact that it looks like, by the clauses that the toolchain makes of its contract,
+-- and that fact has one answer. Assumes nothing.
 use mathlib.Core.Path.{◌≡◌, refl, sym, ◌∙◌}
 use mathlib.Core.List.{List}
 use Prim.Native.Nat.{ℕ}
@@ -10,7 +10,7 @@ use prog.Memory.{Memory}
 use prog.Routine.{Routine}
 use types.Logic.{Logic}
 use contract.Monad.{Fun, fact}
-use denote.Ref.{Bor}
+use denote.Bor.{Bor}
 use Rattle.column.specs.declared.Block.{Block}
 use Rattle.column.specs.declared.Column.{Column}
 use Rattle.column.specs.Lent.{Lent, buffers}

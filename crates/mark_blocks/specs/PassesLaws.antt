@@ -11,16 +11,17 @@ use Rattle.bounds.specs.declared.Why.{Why}
 use Rattle.bounds.specs.declared.Why.TheVariants.{Accepted}
 use Rattle.column.specs.declared.Column.{Column}
 use Rattle.column.specs.Lent.{Lent, fits}
-use Rattle.column.specs.FitLaws.{fits-limit}
+use Rattle.column.proofs.FitLaws.{fits-limit}
 use Rattle.column.specs.Truth.{reachable_at}
-use Rattle.reading.specs.ReadingLaws.{value-reach}
+use Rattle.reading.proofs.ReadingLaws.{value-reach}
 use Rattle.codes.specs.declared.Mark.{Mark}
 use Rattle.marks.specs.declared.Marked.{Marked}
 use Rattle.marks.specs.declared.Marked.TheVariants as marked
 use Rattle.marks.specs.declared.Tally.{Tally}
 use Rattle.marks.specs.declared.Tallied.TheVariants as tallied
 use Rattle.marks.specs.Marking.{row_mark, marked_when, mark_at, tally_of, marks_of}
-use Rattle.marks.specs.MarkingLaws.{with_mark, Room, tally-more, tally-room, marks-bad, marks-are}
+use Rattle.marks.specs.MarkingLaws.{with_mark, Room, tally-more, tally-room}
+use Rattle.marks.proofs.AnswerLaws.{marks-bad, marks-are}
 use Rattle.mark_blocks.specs.declared.Pass.{Pass}
 use Rattle.mark_blocks.specs.Passes.{Counting}
 

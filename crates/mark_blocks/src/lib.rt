@@ -1,6 +1,5 @@
 // The mark of each row of a column, and how many rows have each mark, over the block table lent as a slice of records.
-// A function that has the table is proved by hand, so each is thin: it asks for the record of the block that a row names, and a function over numbers
-// does the work.
+// A function that has the table is thin: it asks for the record of the block that a row names, and a function over numbers does the work.
 #![tactic(auto)]
 
 ghost use Rattle.std.specs.Prelude.{◌≡◌, true, List, ℕ, ◌+◌, ◌<◌, length};

@@ -7,9 +7,8 @@ use Prim.Native.Nat.{ℕ, zero, suc, ◌+◌, ◌*◌, ◌/◌, ◌≤◌, ◌<�
 use native.Mathlib.Omega.{arith}
 use Rattle.basis.specs.Pick.{pick}
 use Rattle.bounds.specs.Bounds.{row_limit, row-limit-small}
-use Rattle.bounds.specs.Refusals.{refuse-yes, refuse-no, is_accepted, if_accepted}
+use Rattle.bounds.specs.Refusals.{is_accepted, if_accepted}
 use Rattle.bounds.specs.declared.Refusal.{Refusal}
-use Rattle.bounds.specs.declared.Refusal.TheVariants.{Fit, BadView}
 use Rattle.bounds.specs.declared.Why.{Why}
 use Rattle.bounds.specs.declared.Why.TheVariants.{Accepted, Refused}
 use Rattle.null_bits.specs.Bits as bits
@@ -18,24 +17,22 @@ use Rattle.column.specs.declared.Block.{Block}
 use Rattle.column.specs.declared.Column.{Column}
 use Rattle.column.specs.declared.Spot.{Spot}
 use Rattle.column.specs.Lent.{Lent, buffers, fits, row_room}
-use Rattle.column.specs.FitLaws.{and_left}
-use Rattle.column.specs.LowestLaws.{lowest-none, lowest-bad}
+use Rattle.column.proofs.FitLaws.{and_left}
 use Rattle.column.specs.Meaning.{shown_at, row_valid}
 use Rattle.column.specs.Spot.{spot_in, bytes_at, Lies}
-use Rattle.column.specs.SpotLaws.{spot-shown}
-use Rattle.column.specs.Truth.{reach_by, is_inside, reachable_at, lowest}
+use Rattle.column.proofs.SpotLaws.{spot-shown}
+use Rattle.column.specs.Truth.{reach_by, is_inside}
 use Rattle.reading.specs.declared.Located.{Located}
 use Rattle.reading.specs.declared.Located.TheVariants as located
 use Rattle.reading.specs.Reading.{why_value, why_of, located_at, value_at}
-use Rattle.reading.specs.ReadingLaws.{Readable, value-readable}
-use Rattle.reading.specs.LocatedLaws.{located-why, located-lies, located-bytes, at_lies, at-bytes}
+use Rattle.reading.proofs.ReadingLaws.{Readable, value-readable}
+use Rattle.reading.proofs.LocatedLaws.{located-why, located-lies, located-bytes, at_lies, at-bytes}
 use Rattle.codes.specs.declared.Mark.{Mark}
 use Rattle.codes.specs.declared.Mark.TheVariants.{Null, Other, Code, Date}
 use Rattle.codes.specs.Marks.{mark_of}
 use Rattle.marks.specs.declared.Marked.TheVariants as marked
 use Rattle.marks.specs.declared.Tally.{Tally}
-use Rattle.marks.specs.declared.Tallied.TheVariants as tallied
-use Rattle.marks.specs.Marking.{row_mark, mark_at, why_marks, is_mark, count_mark, tally_of, tallied_when, marks_of}
+use Rattle.marks.specs.Marking.{row_mark, mark_at, is_mark, count_mark, tally_of}
 
 -- ---- a row's mark, by where its value was found; x is what a call that looked for it answered
 
@@ -149,23 +146,3 @@ module _ (l : Lent) (c : Column) where
         codes = omega (arith, count_most Code k, row-limit-small);
         dates = omega (arith, count_most Date k, row-limit-small);
       })
-
-  -- ---- the verdict on the rows, and the answer
-
-  pub marks-unfit : fits l c ≡ false → tallied.Refused Fit ≡ marks_of l c
-  unfolding marks_of why_marks
-  marks-unfit f = ap (λ (w : Why). tallied_when w (tally_of l c c.rows)) (refuse-yes Fit (not (fits l c)) _ (Refused Fit) (ap not f) refl)
-
-  module _ (fit : fits l c ≡ true) where
-    judged : (w : Why) → w ≡ lowest (reachable_at l c) c.rows Accepted → tallied_when w (tally_of l c c.rows) ≡ marks_of l c
-    unfolding marks_of why_marks
-    judged w e = ap (λ (v : Why). tallied_when v (tally_of l c c.rows)) (refuse-no Fit (not (fits l c)) _ w (ap not fit) e)
-
-    pub marks-bad : (k : ℕ) → k < c.rows → ((j : ℕ) → j < k → reachable_at l c j ≡ true) → reachable_at l c k ≡ false
-        → tallied.Refused (BadView k) ≡ marks_of l c
-    marks-bad k h g b = judged (Refused (BadView k)) (lowest-bad (reachable_at l c) k c.rows Accepted h g b)
-
-    pub marks-are : (k : ℕ) → k ≡ c.rows → ((j : ℕ) → j < k → reachable_at l c j ≡ true) → (t : Tally) → t ≡ tally_of l c k → tallied.Are t ≡ marks_of l c
-    marks-are k h g t e =
-        ap tallied.Are (e ∙ ap (λ (n : ℕ). tally_of l c n) h)
-        ∙ judged Accepted (lowest-none (reachable_at l c) c.rows Accepted (λ j b. g j (omega arith)))

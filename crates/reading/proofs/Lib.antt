@@ -1,1 +1,4 @@
+pub mod ReadingLaws
+pub mod LocatedLaws
+pub mod WalkLaws
 pub mod Only

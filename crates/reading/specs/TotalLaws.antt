@@ -10,7 +10,7 @@ use Rattle.views.specs.View.{view_size, length_of, is_short, view_at}
 use Rattle.column.specs.declared.Kind.TheVariants.{Binary}
 use Rattle.column.specs.declared.Column.{Column}
 use Rattle.column.specs.Lent.{Lent, buffers, lent, fits}
-use Rattle.column.specs.FitLaws.{fits_gives}
+use Rattle.column.proofs.FitLaws.{fits_gives}
 use Rattle.column.specs.Meaning.{row_valid}
 use Rattle.reading.specs.Reading.{bytes_len, buffer_bytes}
 

@@ -1,5 +1,5 @@
 -- No second answer to the three things that are asked of a table: what each promises is the fact that it looks like, by the clauses that the toolchain
--- makes of a function that is walked by hand, and that fact has one answer, or one content at exit. Assumes nothing.
+-- makes of its contract, and that fact has one answer, or one content at exit. Assumes nothing.
 use mathlib.Core.Path.{◌≡◌, refl, sym, ◌∙◌}
 use mathlib.Core.List.{List}
 use Prim.Native.Nat.{ℕ}
@@ -11,7 +11,8 @@ use prog.Memory.{Memory}
 use prog.Routine.{Routine}
 use types.Logic.{Logic}
 use contract.Monad.{Fun, fact}
-use denote.Ref.{Bor}
+use denote.Bor.{Bor}
+use denote.MutBor.{MutBor}
 use Rattle.column.specs.declared.Block.{Block}
 use Rattle.tables.specs.contracts.count as count
 use Rattle.tables.specs.contracts.block_or as block_or
@@ -31,9 +32,9 @@ module _ {M : Type 1} {𝓤 : Ura M} (𝓛 : Logic 𝓤) (mem : Memory → SProp
   pub block-or-one : (r r' : Block) → r ≡ get_or t.now k b → r' ≡ get_or t.now k b → r ≡ r'
   block-or-one r r' p q = p ∙ sym q
 
-  pub put-or-says : (t' : Bor (List Block)) → (put_or.clauses 𝓛 mem run (κ, tt) (t, (k, (b, tt)))).ensures tt tt (t', (k, (b, tt)))
+  pub put-or-says : (t t' : MutBor (List Block)) → (put_or.clauses 𝓛 mem run (κ, tt) (t, (k, (b, tt)))).ensures tt tt (t', (k, (b, tt)))
       ≡ fact 𝓤 (t'.now ≡ set t.now k b)
-  put-or-says t' = refl
+  put-or-says t t' = refl
 
-  pub put-or-one : (t' t'' : Bor (List Block)) → t'.now ≡ set t.now k b → t''.now ≡ set t.now k b → t'.now ≡ t''.now
-  put-or-one t' t'' p q = p ∙ sym q
+  pub put-or-one : (t t' t'' : MutBor (List Block)) → t'.now ≡ set t.now k b → t''.now ≡ set t.now k b → t'.now ≡ t''.now
+  put-or-one t t' t'' p q = p ∙ sym q

@@ -11,8 +11,8 @@ use Rattle.column.specs.declared.Column.{Column}
 use Rattle.column.specs.Lent.{Lent, lent, fits, in_data, data_room, all_in_data}
 use Rattle.column.specs.Room.{bare}
 use Rattle.column.specs.Meaning.{blocks_of}
-use Rattle.column.specs.FitLaws.{all-bare}
-use Rattle.column.specs.LowestLaws.{lowest-none, lowest-bad}
+use Rattle.column.proofs.FitLaws.{all-bare}
+use Rattle.column.proofs.LowestLaws.{lowest-none, lowest-bad}
 use Rattle.column.specs.Truth.{reach_of, reachable, is_true, true_at, lowest}
 use Rattle.validity.specs.Check.{why_invalid}
 

@@ -1,6 +1,5 @@
 -- `blocks::block_of` meets its contract. Assumes nothing.
 use native.Mathlib.Omega.{arith}
-use borrow.Author.Rules.{rules}
 use Rattle.blocks.proofs.block_of.Goals as goal
 
 pub returns-then-rows-first : goal.returns-then-rows-first

@@ -1,8 +1,6 @@
 -- `blocks::check_with` meets its contract. Assumes nothing.
 use mathlib.Core.Path.{sym, ◌∙◌}
 use native.Mathlib.Omega.{arith}
-use borrow.Author.Rules.{rules}
-use borrow.Author.Tests.{not-true, not-false}
 use Rattle.blocks.specs.PlacesLaws.{check-unfit, check-row, check-block, check-valid}
 use Rattle.blocks.proofs.check_with.Goals as goal
 

@@ -1,7 +1,6 @@
 -- `blocks::judge` meets its contract. Assumes nothing.
 use mathlib.Core.Path.{refl}
 use native.Mathlib.Omega.{arith}
-use borrow.Author.Rules.{rules}
 use Rattle.blocks.specs.PlacesLaws.{past-places, no-view, block-answer, row-answer}
 use Rattle.blocks.proofs.judge.Goals as goal
 

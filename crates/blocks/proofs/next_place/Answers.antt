@@ -1,9 +1,8 @@
 -- `blocks::next_place` meets its contract. Assumes nothing.
 use mathlib.Core.Path.{sym, ◌∙◌}
 use native.Mathlib.Omega.{arith}
-use borrow.Author.Rules.{rules}
 use Rattle.bounds.specs.Bounds.{row-limit-is}
-use Rattle.blocks.specs.Walk.{stays-past, goes_on, stays-refused}
+use Rattle.blocks.proofs.WalkLaws.{stays-past, goes_on, stays-refused}
 use Rattle.blocks.proofs.next_place.Goals as goal
 
 pub returns-then-at-gt-ROW_LIMIT : goal.returns-then-at-gt-ROW_LIMIT

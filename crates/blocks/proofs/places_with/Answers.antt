@@ -1,10 +1,8 @@
 -- `blocks::places_with` meets its contract. Assumes nothing.
 use mathlib.Core.Path.{refl, sym, ◌∙◌}
 use native.Mathlib.Omega.{arith}
-use borrow.Author.Rules.{rules}
-use borrow.Author.Tests.{not-true, not-false}
 use Rattle.bounds.specs.Bounds.{block-limit-is}
-use Rattle.column.specs.FitLaws.{over-blocks}
+use Rattle.column.proofs.FitLaws.{over-blocks}
 use Rattle.blocks.specs.PlacesLaws.{never-by}
 use Rattle.blocks.proofs.places_with.Goals as goal
 

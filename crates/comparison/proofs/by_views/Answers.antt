@@ -1,8 +1,7 @@
 -- `comparison::by_views` meets its contract. Assumes nothing.
 use mathlib.Core.Path.{sym, ◌∙◌}
 use native.Mathlib.Omega.{arith}
-use borrow.Author.Rules.{rules}
-use Rattle.order.specs.WordOrder.{four-equal}
+use Rattle.order.proofs.WordOrder.{four-equal}
 use Rattle.comparison.specs.VerdictLaws.{short-order, whole-order, four-order}
 use Rattle.comparison.proofs.by_views.Goals as goal
 

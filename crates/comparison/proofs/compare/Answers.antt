@@ -1,8 +1,7 @@
 -- `comparison::compare` meets its contract. Assumes nothing.
 use mathlib.Core.Path.{◌∙◌}
-use borrow.Author.Rules.{rules}
 use Rattle.comparison.specs.VerdictLaws.{both_is, compared-left, compared-right, compared-by}
-use Rattle.reading.specs.LocatedLaws.{located-why, located-lies, located-bytes}
+use Rattle.reading.proofs.LocatedLaws.{located-why, located-lies, located-bytes}
 use Rattle.comparison.proofs.compare.Goals as goal
 
 pub returns-in-Left : goal.returns-in-Left

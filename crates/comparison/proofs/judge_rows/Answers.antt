@@ -1,16 +1,14 @@
 -- `comparison::judge_rows` meets its contract. The invariant: each row passed is reachable. Assumes nothing.
 use mathlib.Core.Bool.{true}
 use mathlib.Core.Path.{◌≡◌, sym, ◌∙◌}
-use Prim.Native.Nat.{ℕ, ◌+◌, ◌-◌, ◌≤◌, ◌<◌}
+use Prim.Native.Nat.{ℕ}
 use native.Mathlib.Omega.{arith}
 use borrow.Author.Count.{below_more}
-use borrow.Author.Tests.{not-true, not-false}
 use Rattle.bounds.specs.Bounds.{row-limit-small}
 use Rattle.bounds.specs.declared.Why.TheVariants.{Accepted}
-use Rattle.column.specs.LowestLaws.{lowest-none, lowest-bad}
+use Rattle.column.proofs.LowestLaws.{lowest-none, lowest-bad}
 use Rattle.column.specs.Room.{bare}
-use Rattle.column.specs.Truth.{reachable, reachable_at}
-use Rattle.views.specs.View.{view_at}
+use Rattle.column.specs.Truth.{reachable_at}
 use Rattle.comparison.proofs.judge_rows.Goals as goal
 
 pub loop-k-init : goal.loop-k-init

@@ -1,7 +1,6 @@
 -- `comparison::order_with` meets its contract. Assumes nothing.
 use mathlib.Core.Path.{ap₂, ◌∙◌}
 use native.Mathlib.Omega.{arith}
-use borrow.Author.Rules.{rules}
 use Rattle.order.specs.Order.{cmp}
 use Rattle.comparison.specs.VerdictLaws.{told_is, told-whole}
 use Rattle.comparison.proofs.order_with.Goals as goal

@@ -1,6 +1,5 @@
 -- `comparison::same_column` meets its contract. Assumes nothing.
 use mathlib.Core.Path.{sym, ap₂, ◌∙◌}
-use borrow.Author.Rules.{rules}
 use Rattle.comparison.proofs.SameLaws.{all-comparable, same_left, same-right, other-count, rows_same, rows-differ}
 use Rattle.comparison.specs.Compare.{both_of}
 use Rattle.comparison.specs.Same.{why_same}

@@ -1,10 +1,9 @@
 -- `comparison::same_row` meets its contract. Assumes nothing.
 use mathlib.Core.Path.{ap₂, ◌∙◌}
 use native.Mathlib.Omega.{arith}
-use borrow.Author.Rules.{rules}
 use Rattle.bounds.specs.Bounds.{row-limit-small}
-use Rattle.column.specs.FitLaws.{fits_gives}
-use Rattle.column.specs.ReachLaws.{shown-bare}
+use Rattle.column.proofs.FitLaws.{fits_gives}
+use Rattle.column.proofs.ReachLaws.{shown-bare}
 use Rattle.order.specs.Order.{same}
 use Rattle.comparison.proofs.SameLaws.{bits-differ, bits-alike}
 use Rattle.comparison.specs.VerdictLaws.{readable}
@@ -39,11 +38,11 @@ value_part-x-requires c =
 
 pub overflow_add-d-2 : goal.overflow_add-d-2
 overflow_add-d-2 c =
-    let p = c.pre in let g = fits_gives _ _ _ _ _ _ p.fit2 in omega (arith, row-limit-small)
+    let p = c.requires in let g = fits_gives _ _ _ _ _ _ p.fit2 in omega (arith, row-limit-small)
 
 pub value_part-y-requires : goal.value_part-y-requires
 value_part-y-requires c =
-    let p = c.pre in let q = readable _ _ _ _ _ _ _ p.fit2 p.row2 p.reach2 in (q.room, q.reach)
+    let p = c.requires in let q = readable _ _ _ _ _ _ _ p.fit2 p.row2 p.reach2 in (q.room, q.reach)
 
 pub returns : goal.returns
 returns c =

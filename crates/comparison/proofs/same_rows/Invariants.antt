@@ -1,12 +1,9 @@
 -- `comparison::same_rows` meets its contract. The invariant: the rows passed are the same. Assumes nothing.
 use mathlib.Core.Bool.{true}
-use mathlib.Core.Path.{◌≡◌, refl, sym, ◌∙◌}
+use mathlib.Core.Path.{◌≡◌}
 use Prim.Native.Nat.{◌-◌, ◌≤◌}
-use native.Mathlib.Omega.{arith}
-use borrow.Author.Tests.{not-true, not-false}
 use Rattle.column.specs.Lent.{lent}
 use Rattle.comparison.specs.Same.{same_rows}
-use Rattle.comparison.proofs.SameLaws.{row-differs, row-alike}
 use Rattle.comparison.proofs.same_rows.Given as goal
 
 abbrev pub invariant-loop-k : goal.invariant-loop-k

@@ -1,6 +1,5 @@
 -- `comparison::verdict_of` meets its contract. Assumes nothing.
 use mathlib.Core.Path.{refl}
-use borrow.Author.Rules.{rules}
 use Rattle.comparison.specs.Compare.{both_of}
 use Rattle.comparison.specs.VerdictLaws.{verdict-is, left-lower, right-lower}
 use Rattle.comparison.proofs.verdict_of.Goals as goal

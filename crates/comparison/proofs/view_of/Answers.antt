@@ -1,6 +1,5 @@
 -- `comparison::view_of` meets its contract. Assumes nothing.
 use native.Mathlib.Omega.{arith}
-use borrow.Author.Rules.{rules}
 use Rattle.comparison.specs.VerdictLaws.{view-part}
 use Rattle.comparison.proofs.view_of.Goals as goal
 

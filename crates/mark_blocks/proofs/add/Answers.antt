@@ -1,5 +1,4 @@
 -- `mark_blocks::add` meets its contract. Assumes nothing.
-use borrow.Author.Rules.{rules}
 use Rattle.mark_blocks.proofs.add.Goals as goal
 
 pub returns-in-Null : goal.returns-in-Null

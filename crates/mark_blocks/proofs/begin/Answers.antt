@@ -1,8 +1,6 @@
 -- `mark_blocks::begin` meets its contract. Assumes nothing.
 use mathlib.Core.Path.{sym, ◌∙◌}
 use mathlib.Core.Bool.{true≢false}
-use borrow.Author.Rules.{rules}
-use borrow.Author.Tests.{not-true}
 use Rattle.marks.specs.MarkingLaws.{tally-none}
 use Rattle.mark_blocks.specs.PassesLaws.{counting-none}
 use Rattle.mark_blocks.proofs.begin.Goals as goal

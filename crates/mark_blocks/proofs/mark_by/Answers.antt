@@ -1,5 +1,4 @@
 -- `mark_blocks::mark_by` meets its contract. Assumes nothing.
-use borrow.Author.Rules.{rules}
 use Rattle.mark_blocks.proofs.mark_by.Goals as goal
 
 pub returns : goal.returns

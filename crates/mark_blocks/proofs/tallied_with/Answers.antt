@@ -1,8 +1,6 @@
 -- `mark_blocks::tallied_with` meets its contract. Assumes nothing.
 use mathlib.Core.Path.{sym, ◌∙◌}
-use borrow.Author.Rules.{rules}
-use borrow.Author.Tests.{not-true, not-false}
-use Rattle.marks.specs.MarkingLaws.{marks-unfit}
+use Rattle.marks.proofs.AnswerLaws.{marks-unfit}
 use Rattle.mark_blocks.specs.PassesLaws.{pass-bad, pass-are}
 use Rattle.mark_blocks.proofs.tallied_with.Goals as goal
 

@@ -1,6 +1,5 @@
 -- `mark_blocks::turn` meets its contract. Assumes nothing.
 use native.Mathlib.Omega.{arith}
-use borrow.Author.Rules.{rules}
 use Rattle.mark_blocks.specs.PassesLaws.{counting_more, counting-stop}
 use Rattle.mark_blocks.proofs.turn.Goals as goal
 

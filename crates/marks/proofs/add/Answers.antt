@@ -1,5 +1,4 @@
 -- `marks::add` meets its contract. Assumes nothing.
-use borrow.Author.Rules.{rules}
 use Rattle.marks.proofs.add.Goals as goal
 
 pub returns-in-Null : goal.returns-in-Null

@@ -1,6 +1,5 @@
 -- `marks::add_there` meets its contract. Assumes nothing.
 use mathlib.Core.Path.{ap, ◌∙◌}
-use borrow.Author.Rules.{rules}
 use Rattle.codes.specs.Marks.{mark_of}
 use Rattle.marks.specs.MarkingLaws.{with_mark}
 use Rattle.marks.proofs.add_there.Goals as goal

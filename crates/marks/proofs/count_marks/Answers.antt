@@ -1,20 +1,18 @@
 -- `marks::count_marks` meets its contract. The invariant: the rows passed are tallied, and the view of each is reachable. Assumes nothing.
 use mathlib.Core.Bool.{true}
 use mathlib.Core.Path.{◌≡◌, sym, ◌∙◌}
-use Prim.Native.Nat.{ℕ, ◌-◌, ◌≤◌, ◌<◌}
+use Prim.Native.Nat.{ℕ}
 use native.Mathlib.Omega.{arith}
 use borrow.Author.Count.{below_more}
-use borrow.Author.Rules.{rules}
-use borrow.Author.Tests.{not-true, not-false}
 use Rattle.bounds.specs.Bounds.{row-limit-small}
-use Rattle.column.specs.FitLaws.{fits_gives, fits-row, fits-view}
-use Rattle.column.specs.Lent.{lent, lent_of}
+use Rattle.column.proofs.FitLaws.{fits_gives, fits-row, fits-view}
+use Rattle.column.specs.Lent.{lent_of}
 use Rattle.column.specs.Meaning.{row_valid}
-use Rattle.column.specs.ReachLaws.{spot-bare}
-use Rattle.column.specs.SpotLaws.{found-lies, found-reach}
+use Rattle.column.proofs.ReachLaws.{spot-bare}
+use Rattle.column.proofs.SpotLaws.{found-lies, found-reach}
 use Rattle.column.specs.Truth.{reachable_at}
-use Rattle.marks.specs.Marking.{tally_of}
-use Rattle.marks.specs.MarkingLaws.{stands-mark, fits-bit, tally-none, tally-more, tally-room, marks-unfit, marks-bad, marks-are}
+use Rattle.marks.specs.MarkingLaws.{stands-mark, fits-bit, tally-none, tally-more, tally-room}
+use Rattle.marks.proofs.AnswerLaws.{marks-unfit, marks-bad, marks-are}
 use Rattle.marks.proofs.count_marks.Goals as goal
 
 pub returns-then-not-fits : goal.returns-then-not-fits

@@ -1,8 +1,7 @@
 -- `marks::mark_at` meets its contract. Assumes nothing.
 use native.Mathlib.Omega.{arith}
-use borrow.Author.Rules.{rules}
 use Rattle.bounds.specs.Bounds.{row-limit-small}
-use Rattle.column.specs.FitLaws.{fits-limit}
+use Rattle.column.proofs.FitLaws.{fits-limit}
 use Rattle.column.specs.Meaning.{row_valid}
 use Rattle.marks.specs.MarkingLaws.{mark-no, mark-is, found-readable, there-lies, fits-bit}
 use Rattle.marks.proofs.mark_at.Goals as goal

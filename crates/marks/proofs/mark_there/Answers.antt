@@ -1,6 +1,5 @@
 -- `marks::mark_there` meets its contract. Assumes nothing.
 use mathlib.Core.Path.{ap, ◌∙◌}
-use borrow.Author.Rules.{rules}
 use Rattle.codes.specs.Marks.{mark_of}
 use Rattle.marks.proofs.mark_there.Goals as goal
 

@@ -1,8 +1,7 @@
 -- `marks::mark_with` meets its contract. Assumes nothing.
-use borrow.Author.Rules.{rules}
-use Rattle.column.specs.FitLaws.{fits-limit}
+use Rattle.column.proofs.FitLaws.{fits-limit}
 use Rattle.column.specs.Meaning.{row_valid}
-use Rattle.reading.specs.LocatedLaws.{at_lies}
+use Rattle.reading.proofs.LocatedLaws.{at_lies}
 use Rattle.marks.specs.MarkingLaws.{mark-no, mark-is, found-readable, fits-bit}
 use Rattle.marks.proofs.mark_with.Goals as goal
 

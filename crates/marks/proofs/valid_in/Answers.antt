@@ -1,6 +1,5 @@
 -- `marks::valid_in` meets its contract. Assumes nothing.
 use native.Mathlib.Omega.{arith}
-use borrow.Author.Rules.{rules}
 use Rattle.bounds.specs.Bounds.{row-limit-is}
 use Rattle.marks.specs.MarkingLaws.{past-map}
 use Rattle.marks.proofs.valid_in.Goals as goal

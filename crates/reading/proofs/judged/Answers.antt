@@ -1,7 +1,6 @@
 -- `reading::judged` meets its contract. Assumes nothing.
 use mathlib.Core.Path.{sym, ◌∙◌}
-use borrow.Author.Rules.{rules}
-use Rattle.reading.specs.LocatedLaws.{judged-yes, judged-no}
+use Rattle.reading.proofs.LocatedLaws.{judged-yes, judged-no}
 use Rattle.reading.proofs.judged.Goals as goal
 
 pub returns-then-is_reached : goal.returns-then-is_reached

@@ -1,14 +1,12 @@
 -- `reading::locate` meets its contract. Assumes nothing.
 use mathlib.Core.Path.{sym, ◌∙◌}
-use borrow.Author.Rules.{rules}
-use borrow.Author.Tests.{not-true, not-false}
 use native.Mathlib.Omega.{arith}
-use Rattle.reading.specs.ReadingLaws.{value-unfit, value-past}
-use Rattle.reading.specs.LocatedLaws.{located-no, located-is}
+use Rattle.reading.proofs.ReadingLaws.{value-unfit, value-past}
+use Rattle.reading.proofs.LocatedLaws.{located-no, located-is}
 use Rattle.bounds.specs.declared.Refusal.TheVariants.{Fit, Row}
 use Rattle.bounds.specs.Bounds.{row-limit-small}
-use Rattle.column.specs.FitLaws.{fits_gives, fits-row}
-use Rattle.column.specs.ReachLaws.{spot-bare}
+use Rattle.column.proofs.FitLaws.{fits_gives, fits-row}
+use Rattle.column.proofs.ReachLaws.{spot-bare}
 use Rattle.reading.proofs.locate.Goals as goal
 
 pub returns-then-not-fits : goal.returns-then-not-fits

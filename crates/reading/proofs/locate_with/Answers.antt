@@ -1,12 +1,10 @@
 -- `reading::locate_with` meets its contract. Assumes nothing.
 use mathlib.Core.Path.{sym, ◌∙◌}
-use borrow.Author.Rules.{rules}
 use native.Mathlib.Omega.{arith}
-use borrow.Author.Tests.{not-true, not-false}
-use Rattle.reading.specs.ReadingLaws.{value-unfit, value-past}
-use Rattle.reading.specs.LocatedLaws.{located-no, located-is, judged-lies}
+use Rattle.reading.proofs.ReadingLaws.{value-unfit, value-past}
+use Rattle.reading.proofs.LocatedLaws.{located-no, located-is, judged-lies}
 use Rattle.bounds.specs.declared.Refusal.TheVariants.{Fit, Row}
-use Rattle.column.specs.SpotLaws.{spot-lies, spot_is}
+use Rattle.column.proofs.SpotLaws.{spot-lies, spot_is}
 use Rattle.reading.specs.Reading.{LiesAt}
 use Rattle.reading.proofs.locate_with.Goals as goal
 

@@ -1,6 +1,5 @@
 -- `reading::long_bytes` meets its contract. Assumes nothing.
 use native.Mathlib.Omega.{arith}
-use borrow.Author.Rules.{rules}
 use borrow.Author.Tests.{le-leb, lt-leb}
 use Rattle.reading.proofs.long_bytes.Goals as goal
 

@@ -1,13 +1,12 @@
 -- `reading::null_bit` meets its contract. Assumes nothing.
 use mathlib.Core.Path.{sym, ap, ◌∙◌}
 use native.Mathlib.Omega.{arith}
-use borrow.Author.Rules.{rules}
 use Rattle.bounds.specs.Bounds.{row-limit-small}
 use Rattle.bounds.specs.Refusals.{is_accepted}
-use Rattle.column.specs.FitLaws.{fits_gives}
+use Rattle.column.proofs.FitLaws.{fits_gives}
 use Rattle.column.specs.Meaning.{row_valid}
 use Rattle.reading.specs.Reading.{bit_of, why_row}
-use Rattle.reading.specs.ReadingLaws.{run-known, bit-valid, bit-null, bit-no}
+use Rattle.reading.proofs.ReadingLaws.{run-known, bit-valid, bit-null, bit-no}
 use Rattle.reading.proofs.null_bit.Goals as goal
 
 pub overflow_add-first : goal.overflow_add-first

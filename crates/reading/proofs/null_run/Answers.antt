@@ -1,12 +1,11 @@
 -- `reading::null_run` meets its contract. Assumes nothing.
 use mathlib.Core.Path.{sym, ap, ◌∙◌}
 use native.Mathlib.Omega.{arith}
-use borrow.Author.Rules.{rules}
 use Rattle.bounds.specs.Bounds.{row-limit-small}
 use Rattle.bounds.specs.Refusals.{is_accepted}
-use Rattle.column.specs.FitLaws.{fits_gives}
+use Rattle.column.proofs.FitLaws.{fits_gives}
 use Rattle.reading.specs.Reading.{null_run}
-use Rattle.reading.specs.ReadingLaws.{run-known, number_is_lem, number-no}
+use Rattle.reading.proofs.ReadingLaws.{run-known, number_is_lem, number-no}
 use Rattle.reading.proofs.null_run.Goals as goal
 
 pub overflow_add-first : goal.overflow_add-first

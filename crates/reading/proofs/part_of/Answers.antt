@@ -1,8 +1,7 @@
 -- `reading::part_of` meets its contract. Assumes nothing.
 use mathlib.Core.Path.{refl, ◌∙◌}
 use mathlib.Core.List.{[]}
-use borrow.Author.Rules.{rules}
-use Rattle.reading.specs.LocatedLaws.{at_lies, at-bytes, at-points, no_bytes, no-points}
+use Rattle.reading.proofs.LocatedLaws.{at_lies, at-bytes, at-points, no_bytes, no-points}
 use Rattle.reading.proofs.part_of.Goals as goal
 
 pub part_of-requires : goal.part_of-requires

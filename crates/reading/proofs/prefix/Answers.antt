@@ -1,8 +1,7 @@
 -- `reading::prefix` meets its contract. Assumes nothing.
 use mathlib.Core.Path.{refl}
-use borrow.Author.Rules.{rules}
 use native.Mathlib.Omega.{arith}
-use Rattle.reading.specs.ReadingLaws.{prefix-no, prefix-yes, starts-there}
+use Rattle.reading.proofs.ReadingLaws.{prefix-no, prefix-yes, starts-there}
 use Rattle.reading.specs.Reading.{prefix_at}
 use Rattle.reading.proofs.prefix.Goals as goal
 

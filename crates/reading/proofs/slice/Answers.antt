@@ -1,12 +1,11 @@
 -- `reading::slice` meets its contract. Assumes nothing.
 use mathlib.Core.Path.{sym, ap, ◌∙◌}
 use native.Mathlib.Omega.{arith}
-use borrow.Author.Rules.{rules}
 use Rattle.bounds.specs.Bounds.{row-limit-small}
 use Rattle.bounds.specs.Refusals.{is_accepted}
-use Rattle.column.specs.FitLaws.{fits_gives}
+use Rattle.column.proofs.FitLaws.{fits_gives}
 use Rattle.reading.specs.Reading.{slice}
-use Rattle.reading.specs.ReadingLaws.{run-known, sliced-is, sliced-no}
+use Rattle.reading.proofs.ReadingLaws.{run-known, sliced-is, sliced-no}
 use Rattle.reading.proofs.slice.Goals as goal
 
 pub overflow_add-result : goal.overflow_add-result

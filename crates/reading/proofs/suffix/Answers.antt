@@ -1,8 +1,7 @@
 -- `reading::suffix` meets its contract. Assumes nothing.
 use mathlib.Core.Path.{refl}
-use borrow.Author.Rules.{rules}
 use native.Mathlib.Omega.{arith}
-use Rattle.reading.specs.ReadingLaws.{suffix-no, suffix-yes, starts-after, skip-none, skip-some}
+use Rattle.reading.proofs.ReadingLaws.{suffix-no, suffix-yes, starts-after, skip-none, skip-some}
 use Rattle.reading.specs.Reading.{suffix_at}
 use Rattle.reading.proofs.suffix.Goals as goal
 

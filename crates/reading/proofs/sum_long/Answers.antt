@@ -1,14 +1,8 @@
 -- `reading::sum_long` meets its contract. Assumes nothing.
-use mathlib.Core.Bool.{false}
-use mathlib.Core.List.{[]}
 use mathlib.Core.Path.{◌≡◌}
-use Prim.Native.Nat.{◌≤◌, ◌-◌, ◌*◌}
 use native.Mathlib.Omega.{arith}
-use borrow.Author.Rules.{rules}
 use Rattle.bounds.specs.Bounds.{row-limit-small}
-use Rattle.column.specs.Lent.{buffers}
-use Rattle.reading.specs.Reading.{buffer_bytes}
-use Rattle.reading.specs.TotalLaws.{rows_only, buffer-none, buffer-more}
+use Rattle.reading.specs.TotalLaws.{buffer-none, buffer-more}
 use Rattle.reading.proofs.sum_long.Goals as goal
 
 pub loop-k-init : goal.loop-k-init

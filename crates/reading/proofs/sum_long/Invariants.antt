@@ -3,12 +3,9 @@ use mathlib.Core.Bool.{false}
 use mathlib.Core.List.{[]}
 use mathlib.Core.Path.{◌≡◌}
 use Prim.Native.Nat.{◌≤◌, ◌-◌, ◌*◌}
-use native.Mathlib.Omega.{arith}
-use borrow.Author.Rules.{rules}
-use Rattle.bounds.specs.Bounds.{row-limit-small}
 use Rattle.column.specs.Lent.{buffers}
 use Rattle.reading.specs.Reading.{buffer_bytes}
-use Rattle.reading.specs.TotalLaws.{rows_only, buffer-none, buffer-more}
+use Rattle.reading.specs.TotalLaws.{rows_only}
 use Rattle.reading.proofs.sum_long.Given as goal
 
 abbrev pub invariant-loop-k : goal.invariant-loop-k

@@ -1,13 +1,8 @@
 -- `reading::sum_valid` meets its contract. Assumes nothing.
-use mathlib.Core.List.{[]}
 use mathlib.Core.Path.{◌≡◌}
-use Prim.Native.Nat.{◌≤◌, ◌-◌, ◌*◌}
 use native.Mathlib.Omega.{arith}
-use borrow.Author.Rules.{rules}
 use Rattle.bounds.specs.Bounds.{row-limit-small}
-use Rattle.column.specs.Lent.{buffers}
-use Rattle.reading.specs.Reading.{bytes_len}
-use Rattle.reading.specs.TotalLaws.{rows_only, bytes-none, bytes-more}
+use Rattle.reading.specs.TotalLaws.{bytes-none, bytes-more}
 use Rattle.reading.proofs.sum_valid.Goals as goal
 
 pub loop-k-init : goal.loop-k-init

@@ -2,12 +2,9 @@
 use mathlib.Core.List.{[]}
 use mathlib.Core.Path.{◌≡◌}
 use Prim.Native.Nat.{◌≤◌, ◌-◌, ◌*◌}
-use native.Mathlib.Omega.{arith}
-use borrow.Author.Rules.{rules}
-use Rattle.bounds.specs.Bounds.{row-limit-small}
 use Rattle.column.specs.Lent.{buffers}
 use Rattle.reading.specs.Reading.{bytes_len}
-use Rattle.reading.specs.TotalLaws.{rows_only, bytes-none, bytes-more}
+use Rattle.reading.specs.TotalLaws.{rows_only}
 use Rattle.reading.proofs.sum_valid.Given as goal
 
 abbrev pub invariant-loop-k : goal.invariant-loop-k

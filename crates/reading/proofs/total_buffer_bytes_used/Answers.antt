@@ -1,9 +1,8 @@
 -- `reading::total_buffer_bytes_used` meets its contract. Assumes nothing.
 use mathlib.Core.Path.{sym, ap, ◌∙◌}
-use borrow.Author.Rules.{rules}
 use Rattle.bounds.specs.Refusals.{is_accepted}
 use Rattle.reading.specs.Reading.{total_buffer_bytes_used}
-use Rattle.reading.specs.ReadingLaws.{column-known, number_is_lem, number-no}
+use Rattle.reading.proofs.ReadingLaws.{column-known, number_is_lem, number-no}
 use Rattle.reading.specs.TotalLaws.{fits-views, buffer-bare}
 use Rattle.reading.proofs.total_buffer_bytes_used.Goals as goal
 

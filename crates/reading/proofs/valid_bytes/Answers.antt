@@ -1,6 +1,5 @@
 -- `reading::valid_bytes` meets its contract. Assumes nothing.
 use native.Mathlib.Omega.{arith}
-use borrow.Author.Rules.{rules}
 use Rattle.reading.proofs.valid_bytes.Goals as goal
 
 pub returns-then-valid_at : goal.returns-then-valid_at

@@ -1,7 +1,6 @@
 -- `reading::value` meets its contract. Assumes nothing.
 use mathlib.Core.Path.{◌∙◌}
-use borrow.Author.Rules.{rules}
-use Rattle.reading.specs.LocatedLaws.{located-points, located-lies, located-bytes}
+use Rattle.reading.proofs.LocatedLaws.{located-points, located-lies, located-bytes}
 use Rattle.reading.proofs.value.Goals as goal
 
 pub part_of-requires : goal.part_of-requires

@@ -1,12 +1,10 @@
 -- `reading::walk_step` meets its contract. Assumes nothing.
 use mathlib.Core.Path.{sym, ap, ◌∙◌}
 use native.Mathlib.Omega.{arith}
-use borrow.Author.Rules.{rules}
-use borrow.Author.Tests.{not-true, not-false}
 use Rattle.bounds.specs.Bounds.{row-limit-small}
 use Rattle.bounds.specs.Refusals.{is_accepted}
-use Rattle.column.specs.FitLaws.{fits_gives}
-use Rattle.reading.specs.ReadingLaws.{value-readable, step_stays, step-goes}
+use Rattle.column.proofs.FitLaws.{fits_gives}
+use Rattle.reading.proofs.ReadingLaws.{value-readable, step_stays, step-goes}
 use Rattle.reading.proofs.walk_step.Goals as goal
 
 pub returns-then-not-is_accepted : goal.returns-then-not-is_accepted

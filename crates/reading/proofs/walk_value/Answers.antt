@@ -1,5 +1,4 @@
 -- `reading::walk_value` meets its contract. Assumes nothing.
-use borrow.Author.Rules.{rules}
 use Rattle.reading.specs.Walk.{walk_value}
 use Rattle.reading.proofs.walk_value.Goals as goal
 

@@ -1,8 +1,6 @@
 -- `reading::why_column` meets its contract. Assumes nothing.
 use mathlib.Core.Path.{sym, ◌∙◌}
-use borrow.Author.Rules.{rules}
-use borrow.Author.Tests.{not-true, not-false}
-use Rattle.reading.specs.ReadingLaws.{column-unfit, column-fit}
+use Rattle.reading.proofs.ReadingLaws.{column-unfit, column-fit}
 use Rattle.reading.proofs.why_column.Goals as goal
 
 pub returns-then-not-fits : goal.returns-then-not-fits

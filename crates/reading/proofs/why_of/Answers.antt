@@ -1,5 +1,4 @@
 -- `reading::why_of` meets its contract. Assumes nothing.
-use borrow.Author.Rules.{rules}
 use Rattle.reading.proofs.why_of.Goals as goal
 
 pub returns-in-At : goal.returns-in-At

@@ -1,9 +1,7 @@
 -- `reading::why_run` meets its contract. Assumes nothing.
 use mathlib.Core.Path.{sym, ◌∙◌}
 use native.Mathlib.Omega.{arith}
-use borrow.Author.Rules.{rules}
-use borrow.Author.Tests.{not-true, not-false}
-use Rattle.reading.specs.ReadingLaws.{run-unfit, run_past, run-within}
+use Rattle.reading.proofs.ReadingLaws.{run-unfit, run_past, run-within}
 use Rattle.reading.proofs.why_run.Goals as goal
 
 pub returns-then-not-fits : goal.returns-then-not-fits

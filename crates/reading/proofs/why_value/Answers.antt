@@ -1,7 +1,6 @@
 -- `reading::why_value` meets its contract. Assumes nothing.
 use mathlib.Core.Path.{◌∙◌}
-use borrow.Author.Rules.{rules}
-use Rattle.reading.specs.LocatedLaws.{located-why}
+use Rattle.reading.proofs.LocatedLaws.{located-why}
 use Rattle.reading.proofs.why_value.Goals as goal
 
 pub returns : goal.returns

@@ -1,36 +1,33 @@
 -- `validity::check` meets its contract. The invariant: the view of each row passed is true. Assumes nothing.
-use mathlib.Core.Bool.{true}
-use mathlib.Core.Path.{◌≡◌, sym, ◌∙◌}
-use Prim.Native.Nat.{ℕ, ◌+◌, ◌-◌, ◌≤◌, ◌<◌}
+use mathlib.Core.Bool.{true, not}
+use mathlib.Core.Path.{◌≡◌, sym, ap, ◌∙◌}
+use Prim.Native.Nat.{ℕ}
 use native.Mathlib.Omega.{arith}
 use borrow.Author.Count.{below_more}
-use borrow.Author.Rules.{rules}
-use borrow.Author.Tests.{not-true, not-false}
 use Rattle.bounds.specs.Bounds.{row-limit-small}
-use Rattle.column.specs.FitLaws.{fits_gives, fits-row, fits-listed}
+use Rattle.column.proofs.FitLaws.{fits_gives, fits-row, fits-listed}
 use Rattle.column.specs.Room.{bare}
-use Rattle.column.specs.Truth.{is_true, true_at}
-use Rattle.views.specs.View.{view_at}
+use Rattle.column.specs.Truth.{true_at}
 use Rattle.validity.proofs.CheckLaws.{invalid-fit, invalid-row, invalid-block, valid}
 use Rattle.validity.proofs.check.Goals as goal
 
 pub returns-then-not-fits : goal.returns-then-not-fits
-returns-then-not-fits c = invalid-fit _ _ _ _ _ _ (rw c.fits.ensures at c.if-not-fits.true-raw)
+returns-then-not-fits c = invalid-fit _ _ _ _ _ _ (ap not (sym c.fits.ensures ∙ c.if-not-fits.true))
 
 pub loop-k-init : goal.loop-k-init
 loop-k-init c = (omega arith, λ r h. absurd (omega arith))
 
 pub overflow_add-first : goal.overflow_add-first
-overflow_add-first c = let g = fits_gives _ _ _ _ _ _ (not-false _ (rw c.fits.ensures at c.if-not-fits.false-raw)) in
+overflow_add-first c = let g = fits_gives _ _ _ _ _ _ (sym c.fits.ensures ∙ c.if-not-fits.false) in
     omega (arith, row-limit-small)
 
 pub is_true_at-requires : goal.is_true_at-requires
-is_true_at-requires c = fits-row _ _ _ _ _ _ _ (not-false _ (rw c.fits.ensures at c.if-not-fits.false-raw)) (omega arith)
+is_true_at-requires c = fits-row _ _ _ _ _ _ _ (sym c.fits.ensures ∙ c.if-not-fits.false) (omega arith)
 
 pub returns-then-not-is_true_at : goal.returns-then-not-is_true_at
 returns-then-not-is_true_at c =
     let s = c.args in invalid-row s.views.now s.bytes.now s.starts.now s.lens.now s.nulls.now s.c
-    (rw c.fits.ensures at c.if-not-fits.false-raw) _ (omega arith)
+    (ap not (sym c.fits.ensures ∙ c.if-not-fits.false)) _ (omega arith)
     c.loop-k.invariant.1 (sym c.is_true_at.ensures ∙ c.if-not-is_true_at.true)
 
 pub overflow_add-k : goal.overflow_add-k
@@ -47,16 +44,16 @@ loop-k-preserved c = let s = c.args in (
 )
 
 pub all_in_data-requires : goal.all_in_data-requires
-all_in_data-requires c = fits-listed _ _ _ _ _ _ (not-false _ (rw c.fits.ensures at c.if-not-fits.false-raw))
+all_in_data-requires c = fits-listed _ _ _ _ _ _ (sym c.fits.ensures ∙ c.if-not-fits.false)
 
 pub returns-then-not-all_in_data : goal.returns-then-not-all_in_data
 returns-then-not-all_in_data c =
     let s = c.args in invalid-block s.views.now s.bytes.now s.starts.now s.lens.now s.nulls.now s.c
-    (rw c.fits.ensures at c.if-not-fits.false-raw)
-    (λ r h. c.loop-k.invariant.1 r (omega arith)) (rw c.all_in_data.ensures at c.if-not-all_in_data.true-raw)
+    (ap not (sym c.fits.ensures ∙ c.if-not-fits.false))
+    (λ r h. c.loop-k.invariant.1 r (omega arith)) (ap not (sym c.all_in_data.ensures ∙ c.if-not-all_in_data.true))
 
 pub returns : goal.returns
 returns c =
     let s = c.args in valid s.views.now s.bytes.now s.starts.now s.lens.now s.nulls.now s.c
-    (rw c.fits.ensures at c.if-not-fits.false-raw)
-    (λ r h. c.loop-k.invariant.1 r (omega arith)) (rw c.all_in_data.ensures at c.if-not-all_in_data.false-raw)
+    (ap not (sym c.fits.ensures ∙ c.if-not-fits.false))
+    (λ r h. c.loop-k.invariant.1 r (omega arith)) (ap not (sym c.all_in_data.ensures ∙ c.if-not-all_in_data.false))

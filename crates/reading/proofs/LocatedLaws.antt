@@ -16,13 +16,13 @@ use Rattle.column.specs.Lent.{Lent, buffers, fits}
 use Rattle.column.specs.Meaning.{shown_at}
 use Rattle.column.specs.Spot.{spot_in, bytes_at, points_to, Lies}
 use Rattle.column.specs.Truth.{reach_by, is_inside, reachable, reachable_at}
-use Rattle.column.specs.FitLaws.{fits-view}
-use Rattle.column.specs.SpotLaws.{spot-reach, found-lies, found-reach, spot-shown}
+use Rattle.column.proofs.FitLaws.{fits-view}
+use Rattle.column.proofs.SpotLaws.{spot-reach, found-lies, found-reach, spot-shown}
 use Rattle.reading.specs.declared.Located.{Located}
 use Rattle.reading.specs.declared.Located.TheVariants as located
 use Rattle.reading.specs.Reading.{why_reach, why_value, located_by, value_at, why_of, located_bytes, points_of, LiesAt, points_at}
 use Rattle.reading.specs.Reading as spec
-use Rattle.reading.specs.ReadingLaws.{value-reach, value-readable}
+use Rattle.reading.proofs.ReadingLaws.{value-reach, value-readable}
 
 -- ---- what is found, by the tests
 

@@ -7,7 +7,7 @@ use Rattle.column.specs.declared.Column.{Column}
 use Rattle.column.specs.Lent.{Lent, fits}
 use Rattle.column.specs.Meaning.{shown_at}
 use Rattle.reading.specs.Reading.{why_value, value_at}
-use Rattle.reading.specs.ReadingLaws.{Readable, value-reached, value-past, step_stays, step-goes}
+use Rattle.reading.proofs.ReadingLaws.{Readable, value-reached, value-past, step_stays, step-goes}
 use Rattle.reading.specs.Walk.{cursor, walk_value, walk_step}
 
 module _ (l : Lent) (c : Column) (r : ℕ) (h : Readable l c r) where

@@ -19,14 +19,14 @@ use Rattle.views.specs.View.{make_view}
 use Rattle.column.specs.declared.Block.{Block}
 use Rattle.column.specs.Lent.{buffers, block, lent, table_of, in_data, block_at, block_room, data_room}
 use Rattle.column.specs.Truth.{of_kind}
-use Rattle.column.specs.FitLaws.{length-table, table_at, block-in-data, in-data-gives, and_left, and_right}
-use Rattle.column.specs.ReachLaws.{block-bytes, take_inner}
+use Rattle.column.proofs.FitLaws.{length-table, table_at, block-in-data, in-data-gives, and_left, and_right}
+use Rattle.column.proofs.ReachLaws.{block-bytes, take_inner}
 use Rattle.builder.specs.declared.State.{State}
 use Rattle.builder.specs.State.{Builder, held, is_open, all_blocks, used, rows_room, fits_state, closed, complete, recorded, rowed, add_row}
 use Rattle.builder.specs.Rooms.{room_of_rows, room_of_blocks, room_of_bytes, open_starts, open_lens}
 use Rattle.builder.specs.RoomLaws.{Fitted, fits_gives, rows-room-is, blocks-room-is, bytes-room-is, all-bounds, is-accepted}
 use Rattle.builder.specs.Others.{lay_block, why_room, why_block, put_block, block_number, viewed, why_view, put_view}
-use Rattle.builder.specs.PutLaws.{recorded-starts, recorded-lens}
+use Rattle.builder.proofs.PutLaws.{recorded-starts, recorded-lens}
 use Rattle.builder.specs.Does.{Does, answer, starts_of, lens_of}
 use Rattle.builder.specs.DoesLaws.{starts-same, lens_same, does-no, does-put}
 use Rattle.appending.specs.Laying.{block_more}

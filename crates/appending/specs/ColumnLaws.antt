@@ -27,16 +27,16 @@ use Rattle.column.specs.Lent.{Lent, buffers, block, lent, fits, in_data, all_in_
 use Rattle.column.specs.Room.{bare, Listed}
 use Rattle.column.specs.Meaning.{row_view, bytes_of, row_valid}
 use Rattle.column.specs.Truth.{true_at, lowest}
-use Rattle.column.specs.FitLaws.{Fitting, table_at, block-in-data, in-data-gives, all-bare, and_left, and_right}
-use Rattle.column.specs.FitLaws as fit-laws
-use Rattle.column.specs.LowestLaws.{lowest-good}
+use Rattle.column.proofs.FitLaws.{Fitting, table_at, block-in-data, in-data-gives, all-bare, and_left, and_right}
+use Rattle.column.proofs.FitLaws as fit-laws
+use Rattle.column.proofs.LowestLaws.{lowest-good}
 use Rattle.validity.specs.Check.{why_invalid}
 use Rattle.builder.specs.declared.State.{State}
 use Rattle.builder.specs.State.{Builder, builder, held, moved, all_blocks, used, rows_room, fits_state, closed, complete, recorded, add_row}
 use Rattle.builder.specs.Rooms.{room_of_rows, room_of_blocks, room_of_bytes, open_starts, open_lens}
 use Rattle.builder.specs.RoomLaws.{Fitted, fits_gives, rows-room-is, blocks-room-is, bytes-room-is, refuse-same, refuse-on, never, is-accepted, room-many}
 use Rattle.builder.specs.Others.{lay_block, lay_blocks, why_room, renumbered, add_column, block_bytes, sizes, why_column, put_column}
-use Rattle.builder.specs.PutLaws.{recorded-starts, recorded-lens}
+use Rattle.builder.proofs.PutLaws.{recorded-starts, recorded-lens}
 use Rattle.builder.specs.Does.{Does, answer, starts_of, lens_of}
 use Rattle.builder.specs.DoesLaws.{does-put}
 use Rattle.appending.specs.Laying.{column_more, end_from, put_data, put_starts, put_lens, put_records, put_from, nulled_by, lens_total, by_kind, Taking}

@@ -8,9 +8,5 @@ pub mod Rooms
 pub mod Does
 pub mod DoesLaws
 pub mod RoomLaws
-pub mod StepLaws
 pub mod SearchLaws
-pub mod PutLaws
 pub mod TimesLaws
-pub mod CallLaws
-pub mod KeptLaws

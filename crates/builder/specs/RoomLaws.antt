@@ -16,7 +16,7 @@ use Rattle.growth.specs.Growing.{fits_growth}
 use Rattle.column.specs.declared.Kind.{Kind}
 use Rattle.column.specs.Lent.{lent, row_room, block_room, data_room}
 use Rattle.column.specs.Truth.{of_kind}
-use Rattle.column.specs.FitLaws.{length-table, and_left, and_right, and_no}
+use Rattle.column.proofs.FitLaws.{length-table, and_left, and_right, and_no}
 use Rattle.builder.specs.declared.State.{State}
 use Rattle.builder.specs.State.{Builder, held, rows_room, is_open, all_blocks, used, fits_rooms, fits_state}
 use Rattle.builder.specs.Rooms.{room_of_rows, room_of_blocks, room_of_bytes, Ready}

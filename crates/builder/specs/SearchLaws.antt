@@ -12,7 +12,7 @@ use borrow.Author.Tests.{lt-ltb, le-ltb, eq-eqb, ne_eqb}
 use Rattle.std.proofs.Math.ListN.{take}
 use Rattle.basis.specs.Pick.{pick, if_lt, lt_yes, lt_no}
 use Rattle.order.specs.Order.{same}
-use Rattle.order.specs.OrderLaws.{same_true}
+use Rattle.order.proofs.OrderLaws.{same_true}
 use Rattle.hash.specs.Hash.{hash_of}
 use Rattle.views.specs.View.{short_most, view_at, length_of, block_of, offset_of}
 use Rattle.views.specs.ViewLaws.{length-view}
@@ -25,7 +25,7 @@ use Rattle.column.specs.Lent.{Lent, lent, buffers, block, in_data}
 use Rattle.column.specs.Room.{bare}
 use Rattle.column.specs.Meaning.{blocks_of, shown}
 use Rattle.column.specs.Truth.{reach_of, is_inside, reachable}
-use Rattle.column.specs.ReachLaws.{reach-no-block, reach-no-data, reach-over, reach-inside, part-shown, length-shown}
+use Rattle.column.proofs.ReachLaws.{reach-no-block, reach-no-data, reach-over, reach-inside, part-shown, length-shown}
 use Rattle.builder.specs.declared.Merging.{Merging}
 use Rattle.builder.specs.declared.State.{State}
 use Rattle.builder.specs.State.{is_open, all_blocks}

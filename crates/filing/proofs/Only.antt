@@ -1,5 +1,5 @@
--- No second answer to the calls over records: what each promises is the fact that it looks like, by the clauses that the toolchain makes of a
--- function that is walked by hand, and that fact has one answer, and one content at exit of each buffer that is lent to be written. Assumes nothing.
+-- No second answer to the calls over records: what each promises is the fact that it looks like, by the clauses that the toolchain makes of the
+-- source, and that fact has one answer, and one content at exit of each buffer that is lent to be written. Assumes nothing.
 use seplogic.Ra.Ura.{Ura}
 use base.Logic.{SProp}
 use base.Fml.{Lft}
@@ -7,7 +7,8 @@ use prog.Memory.{Memory}
 use prog.Routine.{Routine}
 use types.Logic.{Logic}
 use contract.Monad.{Fun, fact}
-use denote.Ref.{Bor}
+use denote.Bor.{Bor}
+use denote.MutBor.{MutBor}
 use Prim.Native.Nat.{ℕ}
 use Rattle.appending.specs.declared.Placed.{Placed}
 use Rattle.bounds.specs.declared.Why.{Why}
@@ -31,32 +32,32 @@ use Rattle.filing.specs.contracts.get_value as getting
 use Rattle.filing.specs.contracts.append_block as append_block
 
 module _ {M : Type 1} {𝓤 : Ura M} (𝓛 : Logic 𝓤) (mem : Memory → SProp 𝓤) (run : Routine → Fun 𝓤) (κ0 κ1 κ2 κ3 κ4 : Lft)
-    (s : State) (views : Bor (List ℕ)) (bytes : Bor (List ℕ)) (table : Bor (List Block)) (nulls : Bor (List ℕ)) (places : Bor (List ℕ)) where
-  abbrev pub append-null-fact : Answer → Bor (List ℕ) → Bor (List ℕ) → Type 0
+    (s : State) (views : MutBor (List ℕ)) (bytes : Bor (List ℕ)) (table : Bor (List Block)) (nulls : MutBor (List ℕ)) (places : Bor (List ℕ)) where
+  abbrev pub append-null-fact : Answer → MutBor (List ℕ) → MutBor (List ℕ) → Type 0
   append-null-fact z views' nulls' = Files why_null put_null s views.now bytes.now table.now nulls.now places.now z views'.now bytes.now
       table.now nulls'.now places.now
 
-  pub append-null-says : (z : Answer) (views' : Bor (List ℕ)) (nulls' : Bor (List ℕ)) → (append_null.clauses 𝓛 mem run
+  pub append-null-says : (z : Answer) (views' : MutBor (List ℕ)) (nulls' : MutBor (List ℕ)) → (append_null.clauses 𝓛 mem run
       (κ0, (κ1, (κ2, (κ3, (κ4, tt))))) (s, (views, (bytes, (table, (nulls, (places, tt))))))).ensures tt z
       (s, (views', (bytes, (table, (nulls', (places, tt)))))) ≡ fact 𝓤 (append-null-fact z views' nulls')
   append-null-says z views' nulls' = refl
 
-  pub append-null-one : (z z' : Answer) (views' views'' : Bor (List ℕ)) (nulls' nulls'' : Bor (List ℕ)) → append-null-fact z views' nulls'
+  pub append-null-one : (z z' : Answer) (views' views'' : MutBor (List ℕ)) (nulls' nulls'' : MutBor (List ℕ)) → append-null-fact z views' nulls'
       → append-null-fact z' views'' nulls'' → (z ≡ z') × (views'.now ≡ views''.now) × (nulls'.now ≡ nulls''.now)
   append-null-one z z' views' views'' nulls' nulls'' p q = (p.answers ∙ sym q.answers, p.views ∙ sym q.views, p.nulls ∙ sym q.nulls)
 
 module _ {M : Type 1} {𝓤 : Ura M} (𝓛 : Logic 𝓤) (mem : Memory → SProp 𝓤) (run : Routine → Fun 𝓤) (κ0 κ1 κ2 κ3 κ4 : Lft)
-    (s : State) (views : Bor (List ℕ)) (bytes : Bor (List ℕ)) (table : Bor (List Block)) (nulls : Bor (List ℕ)) (places : Bor (List ℕ)) where
-  abbrev pub finish-fact : Finished → Bor (List Block) → Bor (List ℕ) → Type 0
+    (s : State) (views : Bor (List ℕ)) (bytes : Bor (List ℕ)) (table : MutBor (List Block)) (nulls : Bor (List ℕ)) (places : MutBor (List ℕ)) where
+  abbrev pub finish-fact : Finished → MutBor (List Block) → MutBor (List ℕ) → Type 0
   finish-fact z table' places' = Files why_finish finished s views.now bytes.now table.now nulls.now places.now z.answer views.now
       bytes.now table'.now nulls.now places'.now × (z.column ≡ finish_column (filed s views.now bytes.now table.now nulls.now places.now))
 
-  pub finish-says : (z : Finished) (table' : Bor (List Block)) (places' : Bor (List ℕ)) → (finish.clauses 𝓛 mem run
+  pub finish-says : (z : Finished) (table' : MutBor (List Block)) (places' : MutBor (List ℕ)) → (finish.clauses 𝓛 mem run
       (κ0, (κ1, (κ2, (κ3, (κ4, tt))))) (s, (views, (bytes, (table, (nulls, (places, tt))))))).ensures tt z
       (s, (views, (bytes, (table', (nulls, (places', tt)))))) ≡ fact 𝓤 (finish-fact z table' places')
   finish-says z table' places' = refl
 
-  pub finish-one : (z z' : Finished) (table' table'' : Bor (List Block)) (places' places'' : Bor (List ℕ)) → finish-fact z table' places'
+  pub finish-one : (z z' : Finished) (table' table'' : MutBor (List Block)) (places' places'' : MutBor (List ℕ)) → finish-fact z table' places'
       → finish-fact z' table'' places'' → (z ≡ z') × (table'.now ≡ table''.now) × (places'.now ≡ places''.now)
   finish-one z z' table' table'' places' places'' p q = (
     λ i. record {
@@ -68,17 +69,17 @@ module _ {M : Type 1} {𝓤 : Ura M} (𝓛 : Logic 𝓤) (mem : Memory → SProp
   )
 
 module _ {M : Type 1} {𝓤 : Ura M} (𝓛 : Logic 𝓤) (mem : Memory → SProp 𝓤) (run : Routine → Fun 𝓤) (κ0 κ1 κ2 κ3 κ4 : Lft)
-    (s : State) (views : Bor (List ℕ)) (bytes : Bor (List ℕ)) (table : Bor (List Block)) (nulls : Bor (List ℕ)) (places : Bor (List ℕ)) where
-  abbrev pub finish-copy-fact : Finished → Bor (List Block) → Type 0
+    (s : State) (views : Bor (List ℕ)) (bytes : Bor (List ℕ)) (table : MutBor (List Block)) (nulls : Bor (List ℕ)) (places : Bor (List ℕ)) where
+  abbrev pub finish-copy-fact : Finished → MutBor (List Block) → Type 0
   finish-copy-fact z table' = Files why_finish copied s views.now bytes.now table.now nulls.now places.now z.answer views.now
       bytes.now table'.now nulls.now places.now × (z.column ≡ finish_column (filed s views.now bytes.now table.now nulls.now places.now))
 
-  pub finish-copy-says : (z : Finished) (table' : Bor (List Block)) → (finish_copy.clauses 𝓛 mem run (κ0, (κ1, (κ2, (κ3, (κ4, tt)))))
+  pub finish-copy-says : (z : Finished) (table' : MutBor (List Block)) → (finish_copy.clauses 𝓛 mem run (κ0, (κ1, (κ2, (κ3, (κ4, tt)))))
       (s, (views, (bytes, (table, (nulls, (places, tt))))))).ensures tt z (s, (views, (bytes, (table', (nulls, (places, tt))))))
       ≡ fact 𝓤 (finish-copy-fact z table')
   finish-copy-says z table' = refl
 
-  pub finish-copy-one : (z z' : Finished) (table' table'' : Bor (List Block)) → finish-copy-fact z table' → finish-copy-fact z' table'' → (z ≡ z')
+  pub finish-copy-one : (z z' : Finished) (table' table'' : MutBor (List Block)) → finish-copy-fact z table' → finish-copy-fact z' table'' → (z ≡ z')
       × (table'.now ≡ table''.now)
   finish-copy-one z z' table' table'' p q = (
     λ i. record { answer = (p.0.answers ∙ sym q.0.answers) i; column = (p.1 ∙ sym q.1) i },
@@ -113,19 +114,19 @@ module _ {M : Type 1} {𝓤 : Ura M} (𝓛 : Logic 𝓤) (mem : Memory → SProp
   get-value-one z z' p q = (p.1 ∙ sym q.1, p.0 ∙ sym q.0)
 
 module _ {M : Type 1} {𝓤 : Ura M} (𝓛 : Logic 𝓤) (mem : Memory → SProp 𝓤) (run : Routine → Fun 𝓤) (κ0 κ1 κ2 κ3 κ4 κ5 : Lft)
-    (s : State) (views : Bor (List ℕ)) (bytes : Bor (List ℕ)) (table : Bor (List Block)) (nulls : Bor (List ℕ)) (places : Bor (List ℕ))
+    (s : State) (views : Bor (List ℕ)) (bytes : MutBor (List ℕ)) (table : MutBor (List Block)) (nulls : Bor (List ℕ)) (places : Bor (List ℕ))
     (x : Bor (List ℕ)) where
-  abbrev pub append-block-fact : Placed → Bor (List ℕ) → Bor (List Block) → Type 0
+  abbrev pub append-block-fact : Placed → MutBor (List ℕ) → MutBor (List Block) → Type 0
   append-block-fact z bytes' table' = Files (λ b. why_block b x.now) (put_block x.now) s views.now bytes.now table.now nulls.now
       places.now z.answer views.now bytes'.now table'.now nulls.now places.now
       × (z.block ≡ block_number (filed s views.now bytes.now table.now nulls.now places.now) x.now)
 
-  pub append-block-says : (z : Placed) (bytes' : Bor (List ℕ)) (table' : Bor (List Block)) → (append_block.clauses 𝓛 mem run
+  pub append-block-says : (z : Placed) (bytes' : MutBor (List ℕ)) (table' : MutBor (List Block)) → (append_block.clauses 𝓛 mem run
       (κ0, (κ1, (κ2, (κ3, (κ4, (κ5, tt)))))) (s, (views, (bytes, (table, (nulls, (places, (x, tt)))))))).ensures tt z
       (s, (views, (bytes', (table', (nulls, (places, (x, tt))))))) ≡ fact 𝓤 (append-block-fact z bytes' table')
   append-block-says z bytes' table' = refl
 
-  pub append-block-one : (z z' : Placed) (bytes' bytes'' : Bor (List ℕ)) (table' table'' : Bor (List Block)) → append-block-fact z bytes' table'
+  pub append-block-one : (z z' : Placed) (bytes' bytes'' : MutBor (List ℕ)) (table' table'' : MutBor (List Block)) → append-block-fact z bytes' table'
       → append-block-fact z' bytes'' table'' → (z ≡ z') × (bytes'.now ≡ bytes''.now) × (table'.now ≡ table''.now)
   append-block-one z z' bytes' bytes'' table' table'' p q = (
     λ i. record {

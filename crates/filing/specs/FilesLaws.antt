@@ -12,7 +12,7 @@ use Rattle.builder.specs.declared.Answer.{Answer}
 use Rattle.builder.specs.State.{Builder, held, fits_rooms, fits_state, recorded}
 use Rattle.builder.specs.Rooms.{room_of_rows, room_of_blocks, room_of_bytes}
 use Rattle.builder.specs.RoomLaws.{Fitted, fits-is, fits_gives}
-use Rattle.column.specs.FitLaws.{length-table}
+use Rattle.column.proofs.FitLaws.{length-table}
 use Rattle.builder.specs.Does.{Does, left}
 use Rattle.filing.specs.Files.{Files, open_table}
 

@@ -13,7 +13,7 @@ use Rattle.bounds.specs.declared.Why.{Why}
 use Rattle.bounds.specs.declared.Why.TheVariants.{Accepted, Refused}
 use Rattle.column.specs.declared.Block.{Block}
 use Rattle.column.specs.Lent.{block, table_of}
-use Rattle.column.specs.FitLaws.{and_left, and_right}
+use Rattle.column.proofs.FitLaws.{and_left, and_right}
 use Rattle.builder.specs.declared.State.{State}
 use Rattle.builder.specs.State.{held, all_blocks, used, fits_rooms, closed, complete, recorded}
 use Rattle.builder.specs.Rooms.{room_of_rows, room_of_blocks, room_of_bytes}

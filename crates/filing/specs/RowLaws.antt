@@ -21,7 +21,7 @@ use Rattle.builder.specs.Rooms.{Ready}
 use Rattle.builder.specs.RoomLaws.{fits_gives, ready}
 use Rattle.builder.specs.Get.{why_get, get_value}
 use Rattle.finishing.specs.Places.{spot_row, get_points}
-use Rattle.finishing.specs.GetLaws.{get_fit, get-late, get-bad, get-fine, value-yes, points-yes, row-record, row-spot, row-reach, row-shown}
+use Rattle.finishing.proofs.GetLaws.{get_fit, get-late, get-bad, get-fine, value-yes, points-yes, row-record, row-spot, row-reach, row-shown}
 use Rattle.filing.specs.Files.{filed}
 use Rattle.filing.specs.FilesLaws.{over-tables, fits_by, fits-by, fitted}
 use Rattle.filing.specs.Rows.{RowNames, RowSees}

@@ -24,8 +24,8 @@ use Rattle.column.specs.declared.Block.{Block}
 use Rattle.column.specs.declared.Column.{Column}
 use Rattle.column.specs.Lent.{Lent, buffers, block, table_of, lent, fits, in_data, all_in_data, block_at, block_room, row_room}
 use Rattle.column.specs.Meaning.{bytes_of}
-use Rattle.column.specs.FitLaws.{in-data-gives, and_left, and_right}
-use Rattle.column.specs.FitLaws as fit-laws
+use Rattle.column.proofs.FitLaws.{in-data-gives, and_left, and_right}
+use Rattle.column.proofs.FitLaws as fit-laws
 use Rattle.validity.specs.Check.{why_invalid}
 use Rattle.builder.specs.declared.State.{State}
 use Rattle.builder.specs.declared.Answer.{Answer}
@@ -368,7 +368,7 @@ lay-is d src at a n h =
     (λ i. paste d at (e i) (length (e i))) ∙ ap (paste d at (take n (drop a src))) (length-take-le n (drop a src) (simp length-drop (omega arith)))
 
 module _ (src : List ℕ) (u : List Block) where
-  abbrev taking : ℕ → List ℕ
+  abbrev pub taking : ℕ → List ℕ
   taking = block_bytes (buffers [] src u [])
 
   pub data-none : (bs : List ℕ) (base : ℕ) → bs ≡ put_data taking 0 bs base

@@ -1,4 +1,3 @@
 pub mod ViewsLaws
 pub mod ColumnsLaws
-mod Asks
 pub mod Only

@@ -17,7 +17,7 @@ use Rattle.views.specs.View.{make_view}
 use Rattle.column.specs.declared.Block.{Block}
 use Rattle.column.specs.Lent.{buffers, block, table_of, in_data}
 use Rattle.column.specs.Truth.{of_kind}
-use Rattle.column.specs.FitLaws.{table_at}
+use Rattle.column.proofs.FitLaws.{table_at}
 use Rattle.builder.specs.declared.State.{State}
 use Rattle.builder.specs.State.{held, fits_state, rowed, add_row}
 use Rattle.builder.specs.Rooms.{room_of_rows}

@@ -1,5 +1,5 @@
 // A column and a view of a completed block added to a builder, its block table, and the column's, lent as slices of records.
-// A function that has a table is proved by hand, so each is thin: a function over the count of the records does the work and answers what is to be written.
+// A function that has a table is thin: a function over the count of the records does the work and answers what is to be written.
 #![tactic(auto)]
 
 ghost use Rattle.std.specs.Prelude.{◌≡◌, true, List, [], ℕ, ◌+◌, ◌*◌, ◌≤◌, length, set, get_or};

@@ -25,8 +25,8 @@ use Rattle.builder.specs.State.{Builder, held, rows_room, fits_rooms, fits_state
 use Rattle.builder.specs.Rooms.{room_of_rows, room_of_blocks, room_of_bytes}
 use Rattle.builder.specs.RoomLaws.{Judged, first-is, first_of, value-no, value_none, value_on, judged, fits_gives, is-accepted}
 use Rattle.builder.specs.Values.{found, why_rows, why_lay, why_store, why_values, put_value, put_values}
-use Rattle.builder.specs.PutLaws.{found-is, row_lt, free-lt, store-short, put-short, store-row, put-row, put-lay}
-use Rattle.builder.specs.CallLaws.{does-short, does-row, lay-is, does-lay, put-none, put-many, put-rows}
+use Rattle.builder.proofs.PutLaws.{found-is, row_lt, free-lt, store-short, put-short, store-row, put-row, put-lay}
+use Rattle.builder.proofs.CallLaws.{does-short, does-row, lay-is, does-lay, put-none, put-many, put-rows}
 use Rattle.builder.specs.TimesLaws.{put_copies, rowed_by, add-rows}
 use Rattle.builder.specs.Does.{answer, left}
 use Rattle.builder.specs.DoesLaws.{starts-same, lens_same, does-no, does-put}

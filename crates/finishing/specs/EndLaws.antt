@@ -12,7 +12,7 @@ use Rattle.builder.specs.declared.State.{State}
 use Rattle.builder.specs.declared.Answer.{Answer}
 use Rattle.growth.specs.Growing.{fits_growth}
 use Rattle.column.specs.Lent.{block_room, data_room}
-use Rattle.column.specs.FitLaws.{and_no}
+use Rattle.column.proofs.FitLaws.{and_no}
 use Rattle.builder.specs.State.{Builder, held, rows_room, all_blocks, used, fits_rooms, fits_state, recorded}
 use Rattle.builder.specs.Rooms.{open_starts, open_lens}
 use Rattle.builder.specs.Get.{column_of}
@@ -20,7 +20,7 @@ use Rattle.builder.specs.Start.{lawful_sizes, lawful_merging, is_off, empty_stat
 use Rattle.builder.specs.Finish.{why_finish, copied, finished, no_column, finish_column}
 use Rattle.builder.specs.Does.{Does, answer}
 use Rattle.builder.specs.DoesLaws.{does-no, does-put}
-use Rattle.builder.specs.PutLaws.{recorded-starts, recorded-lens}
+use Rattle.builder.proofs.PutLaws.{recorded-starts, recorded-lens}
 
 -- the first k places emptied
 unfoldable pub zeroed : ℕ → List ℕ → List ℕ

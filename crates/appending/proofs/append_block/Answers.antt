@@ -4,7 +4,6 @@ use Rattle.appending.specs.BlockLaws.{blocked, does-not-block, does-block}
 use lib.ListN.{length}
 use Rattle.bounds.specs.Refusals.{is_accepted}
 use Rattle.bounds.specs.Bounds.{block-limit-small, byte-limit-small}
-use borrow.Author.Tests.{not-true, not-false}
 use mathlib.Core.Path.{◌≡◌, sym, ap, ◌∙◌}
 use native.Mathlib.Omega.{arith}
 use borrow.Author.Rules.{rules}
@@ -42,8 +41,8 @@ put_block-requires c =
     let f = j.fit in
     let b = ap (λ (z : State). z.blocks) c.close-t.ensures in
     let d = ap (λ (z : State). z.base) c.close-t.ensures in
-    let e : length c.put_record.new.1.0 ≡ length a.starts.now = search rules in
-    let g : length c.put_record.new.1.1.0 ≡ length a.lens.now = search rules in
+    let e : length c.put_record.new.starts ≡ length a.starts.now = search rules in
+    let g : length c.put_record.new.lens ≡ length a.lens.now = search rules in
     (omega (arith, d, j.inside), omega (arith, b, e, j.starts), omega (arith, b, g, j.lens))
 
 pub block_more-u-requires : goal.block_more-u-requires

@@ -9,7 +9,6 @@ use Prim.Native.Nat.{ℕ}
 use lib.ListN.{length}
 use Rattle.bounds.specs.Refusals.{is_accepted}
 use Rattle.bounds.specs.Bounds.{row-limit-small, block-limit-small, byte-limit-small}
-use borrow.Author.Tests.{not-true, not-false}
 use mathlib.Core.Path.{◌≡◌, refl, sym, ap, ◌∙◌}
 use native.Mathlib.Omega.{arith}
 use borrow.Author.Rules.{rules}
@@ -47,8 +46,8 @@ put_blocks-end-requires c =
     (ap is_accepted (sym c.why_column-w.ensures) ∙ (sym c.is_accepted.ensures
     ∙ c.if-not-is_accepted.false)) in
     let f = k.fit in
-    let e1 : length c.put_record.new.1.0 ≡ length a.starts.now = search rules in
-    let e2 : length c.put_record.new.1.1.0 ≡ length a.lens.now = search rules in
+    let e1 : length c.put_record.new.starts ≡ length a.starts.now = search rules in
+    let e2 : length c.put_record.new.lens ≡ length a.lens.now = search rules in
     taking a.s a.views.now a.bytes.now a.starts.now a.lens.now a.nulls.now a.places.now a.srcviews.now
     a.srcbytes.now a.srcstarts.now a.srclens.now a.srcnulls.now a.c k _ _ _ _ c.close-t.ensures refl e1 e2
 
@@ -81,7 +80,7 @@ count_nulls-requires c =
     let a = c.args in
     let k = taken a.s a.views.now a.bytes.now a.starts.now a.lens.now a.nulls.now a.places.now a.srcviews.now
     a.srcbytes.now a.srcstarts.now a.srclens.now a.srcnulls.now a.c (ap is_accepted (sym c.why_column-w.ensures)
-    ∙ (sym c.is_accepted.ensures ∙ not-false _ c.if-not-is_accepted.left)) in
+    ∙ (sym c.is_accepted.ensures ∙ c.if-not-is_accepted.false)) in
     let f = k.fit in
     k.source.bits
 
@@ -102,15 +101,15 @@ column_more-u-requires c =
 pub shape_of-starts : goal.shape_of-starts
 shape_of-starts c =
     let a = c.args in
-    let l1 : length c.put_blocks-end.new.1.0 ≡ length c.put_record.new.1.0 = c.put_blocks-end.auto.1.0 in
-    let l2 : length c.put_record.new.1.0 ≡ length a.starts.now = c.put_record.auto.1.0 in
+    let l1 : length c.put_blocks-end.new.starts ≡ length c.put_record.new.starts = c.put_blocks-end.auto.starts in
+    let l2 : length c.put_record.new.starts ≡ length a.starts.now = c.put_record.auto.starts in
     l1 ∙ l2
 
 pub shape_of-lens : goal.shape_of-lens
 shape_of-lens c =
     let a = c.args in
-    let l1 : length c.put_blocks-end.new.1.1.0 ≡ length c.put_record.new.1.1.0 = c.put_blocks-end.auto.1.1.0 in
-    let l2 : length c.put_record.new.1.1.0 ≡ length a.lens.now = c.put_record.auto.1.1.0 in
+    let l1 : length c.put_blocks-end.new.lens ≡ length c.put_record.new.lens = c.put_blocks-end.auto.lens in
+    let l2 : length c.put_record.new.lens ≡ length a.lens.now = c.put_record.auto.lens in
     l1 ∙ l2
 
 pub returns : goal.returns

@@ -1,5 +1,4 @@
 use native.Mathlib.Numerals.{add-one}
-use borrow.Author.Rules.{rules}
 use Rattle.appending.proofs.block_more.Goals as goal
 
 pub returns : goal.returns

@@ -1,5 +1,4 @@
 use Rattle.builder.specs.State.{closed}
-use borrow.Author.Rules.{rules}
 use Rattle.appending.proofs.close.Goals as goal
 
 pub returns : goal.returns

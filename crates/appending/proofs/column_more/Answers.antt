@@ -1,6 +1,5 @@
 use Rattle.bounds.specs.Bounds.{row-limit-small, block-limit-small}
 use native.Mathlib.Omega.{arith}
-use borrow.Author.Rules.{rules}
 use Rattle.appending.proofs.column_more.Goals as goal
 
 pub overflow_add-t : goal.overflow_add-t

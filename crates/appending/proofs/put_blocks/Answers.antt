@@ -4,7 +4,7 @@ use Rattle.builder.specs.Others.{block_bytes}
 use lib.Seq.{paste}
 use Rattle.appending.specs.Laying.{end_from, put_data, put_starts, put_lens}
 use mathlib.Core.List.{[]}
-use Prim.Native.Nat.{◌+◌, ◌-◌, ◌≤◌}
+use Prim.Native.Nat.{◌+◌}
 use lib.ListN.{length, set}
 use Rattle.bounds.specs.Bounds.{byte-limit-small}
 use mathlib.Core.Path.{◌≡◌, refl, sym, ap, ◌∙◌}
@@ -134,9 +134,9 @@ loop-k-preserved c =
     let bl = block-length bs ss ns a.n p.listed p.lie k h in
     let f = block_bytes (bare [] bs ss ns) in
     let e = c.put_block.ensures in
-    let l1 : length c.put_block.new.0 ≡ length c.loop-k.bytes = search rules in
-    let l2 : length c.put_block.new.1.0 ≡ length c.loop-k.starts = search rules in
-    let l3 : length c.put_block.new.1.1.0 ≡ length c.loop-k.lens = search rules in (
+    let l1 : length c.put_block.new.bytes ≡ length c.loop-k.bytes = search rules in
+    let l2 : length c.put_block.new.starts ≡ length c.loop-k.starts = search rules in
+    let l3 : length c.put_block.new.lens ≡ length c.loop-k.lens = search rules in (
       omega arith,
       l1 ∙ v.1,
       l2 ∙ v.2,

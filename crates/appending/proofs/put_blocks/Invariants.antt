@@ -1,15 +1,10 @@
-use Rattle.appending.specs.ColumnLaws.{block-end, end_is, total-below, block-is, block-length, end_more, data-more, starts_more, lens-more}
 use Rattle.column.specs.Room.{bare}
 use Rattle.builder.specs.Others.{block_bytes}
-use lib.Seq.{paste}
 use Rattle.appending.specs.Laying.{end_from, put_data, put_starts, put_lens}
 use mathlib.Core.List.{[]}
-use Prim.Native.Nat.{◌+◌, ◌-◌, ◌≤◌}
-use lib.ListN.{length, set}
-use Rattle.bounds.specs.Bounds.{byte-limit-small}
-use mathlib.Core.Path.{◌≡◌, refl, sym, ap, ◌∙◌}
-use native.Mathlib.Omega.{arith}
-use borrow.Author.Rules.{rules}
+use Prim.Native.Nat.{◌-◌, ◌≤◌}
+use lib.ListN.{length}
+use mathlib.Core.Path.{◌≡◌}
 use Rattle.appending.proofs.put_blocks.Given as goal
 
 abbrev pub invariant-loop-k : goal.invariant-loop-k

@@ -4,7 +4,6 @@ use mathlib.Core.List.{List}
 use Prim.Native.Nat.{ℕ, ◌+◌, ◌*◌}
 use mathlib.Core.Path.{ap, ◌∙◌}
 use native.Mathlib.Omega.{arith}
-use borrow.Author.Rules.{rules}
 use Rattle.appending.proofs.put_row.Goals as goal
 
 pub returns-then-view_len-le-SHORT_MOST : goal.returns-then-view_len-le-SHORT_MOST

@@ -1,14 +1,9 @@
 use Rattle.views.specs.View.{view_at}
 use Rattle.builder.specs.Others.{renumbered}
-use lib.Seq.{paste}
-use Rattle.appending.specs.ColumnLaws.{from_more}
 use Rattle.appending.specs.Laying.{put_from}
-use mathlib.Core.List.{List}
-use Prim.Native.Nat.{ℕ, ◌+◌, ◌-◌, ◌*◌, ◌≤◌}
+use Prim.Native.Nat.{◌+◌, ◌-◌, ◌≤◌}
 use lib.ListN.{length}
-use mathlib.Core.Path.{◌≡◌, refl, ap, ◌∙◌}
-use native.Mathlib.Omega.{arith}
-use borrow.Author.Rules.{rules}
+use mathlib.Core.Path.{◌≡◌}
 use Rattle.appending.proofs.put_rows.Given as goal
 
 abbrev pub invariant-loop-k : goal.invariant-loop-k

@@ -1,11 +1,10 @@
 use Rattle.appending.specs.ColumnLaws.{total-more}
 use Rattle.appending.specs.Laying.{lens_total}
-use Prim.Native.Nat.{ℕ, ◌+◌, ◌-◌, ◌*◌, ◌≤◌}
+use Prim.Native.Nat.{ℕ, ◌+◌}
 use lib.ListN.{get_or}
 use Rattle.bounds.specs.Bounds.{byte-limit-is, block-limit-small}
 use mathlib.Core.Path.{◌≡◌, refl, ap, ◌∙◌}
 use native.Mathlib.Omega.{arith}
-use borrow.Author.Rules.{rules}
 use Rattle.appending.proofs.total.Goals as goal
 
 pub loop-k-init : goal.loop-k-init

@@ -4,10 +4,8 @@ use Rattle.appending.specs.BlockLaws.{seen, seen-inside, does-view}
 use Rattle.builder.specs.DoesLaws.{does-no}
 use Rattle.bounds.specs.Refusals.{is_accepted}
 use Rattle.bounds.specs.Bounds.{row-limit-small, byte-limit-small}
-use borrow.Author.Tests.{not-true, not-false}
 use mathlib.Core.Path.{sym, ap, ◌∙◌}
 use native.Mathlib.Omega.{arith}
-use borrow.Author.Rules.{rules}
 use Rattle.appending.proofs.view_call.Goals as goal
 
 pub returns-then-not-is_accepted : goal.returns-then-not-is_accepted

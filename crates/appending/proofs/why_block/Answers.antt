@@ -1,10 +1,8 @@
 use Rattle.builder.specs.RoomLaws.{fits_gives}
 use Rattle.appending.specs.BlockLaws.{block_fit, block-long, block_room_lem}
 use Rattle.bounds.specs.Bounds.{byte-limit-is, block-limit-small, byte-limit-small}
-use borrow.Author.Tests.{not-true, not-false}
 use mathlib.Core.Path.{sym, ◌∙◌}
 use native.Mathlib.Omega.{arith}
-use borrow.Author.Rules.{rules}
 use Rattle.appending.proofs.why_block.Goals as goal
 
 pub returns-then-not-fits_lent : goal.returns-then-not-fits_lent

@@ -1,5 +1,5 @@
 use Rattle.appending.specs.ColumnLaws.{column-fit, column-no, column-full, column-room, alone-gives, lies, block-limit}
-use Rattle.column.specs.FitLaws as fit-laws
+use Rattle.column.proofs.FitLaws as fit-laws
 use Rattle.builder.specs.State.{held}
 use Rattle.validity.specs.Check.{why_invalid}
 use Rattle.column.specs.Lent.{lent}
@@ -7,10 +7,8 @@ use Rattle.column.specs.declared.Column.{Column}
 use Rattle.builder.specs.RoomLaws.{fits_gives}
 use Rattle.bounds.specs.Refusals.{is_accepted}
 use Rattle.bounds.specs.Bounds.{row-limit-small, block-limit-small, byte-limit-small}
-use borrow.Author.Tests.{not-true, not-false}
 use mathlib.Core.Path.{sym, ap, ◌∙◌}
 use native.Mathlib.Omega.{arith}
-use borrow.Author.Rules.{rules}
 use Rattle.appending.proofs.why_column.Goals as goal
 
 pub returns-then-not-fits_lent : goal.returns-then-not-fits_lent

@@ -1,6 +1,5 @@
 use Rattle.appending.specs.BlockLaws.{room-no-block, room-no-data, room-fine}
 use native.Mathlib.Omega.{arith}
-use borrow.Author.Rules.{rules}
 use Rattle.appending.proofs.why_room.Goals as goal
 
 pub returns-then-blocks-all_blocks : goal.returns-then-blocks-all_blocks

@@ -1,11 +1,9 @@
-use Rattle.column.specs.FitLaws.{in-data-gives}
+use Rattle.column.proofs.FitLaws.{in-data-gives}
 use Rattle.builder.specs.RoomLaws.{fits_gives, all-bounds}
 use Rattle.appending.specs.BlockLaws.{view-fit, view-none, view-outside, view-over, view-kind, view-full, view-fine}
 use Rattle.bounds.specs.Bounds.{byte-limit-small}
-use borrow.Author.Tests.{not-true, not-false}
 use mathlib.Core.Path.{sym, ◌∙◌}
 use native.Mathlib.Omega.{arith}
-use borrow.Author.Rules.{rules}
 use Rattle.appending.proofs.why_view.Goals as goal
 
 pub returns-then-not-fits_lent : goal.returns-then-not-fits_lent

@@ -1,5 +1,4 @@
 use Rattle.builder.specs.DoesLaws.{fields-same}
-use borrow.Author.Rules.{rules}
 use Rattle.builder.proofs.anew.Goals as goal
 
 pub returns : goal.returns

@@ -1,6 +1,5 @@
 use Rattle.basis.specs.Pick.{lt_yes, lt_no}
 use mathlib.Core.Path.{refl}
-use borrow.Author.Rules.{rules}
 use Rattle.builder.proofs.at_or.Goals as goal
 
 pub returns-then-k-blocks : goal.returns-then-k-blocks

@@ -1,7 +1,6 @@
 use Rattle.builder.specs.Rooms.{room_of_blocks}
 use Rattle.bounds.specs.Bounds.{block-limit-is}
 use native.Mathlib.Omega.{arith}
-use borrow.Author.Rules.{rules}
 use Rattle.builder.proofs.blocks_room.Goals as goal
 
 pub returns : goal.returns

@@ -1,7 +1,6 @@
 use Rattle.builder.specs.Rooms.{room_of_bytes}
 use Rattle.bounds.specs.Bounds.{byte-limit-is}
 use native.Mathlib.Omega.{arith}
-use borrow.Author.Rules.{rules}
 use Rattle.builder.proofs.bytes_room.Goals as goal
 
 pub returns : goal.returns

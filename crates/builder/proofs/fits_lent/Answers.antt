@@ -2,7 +2,6 @@ use Rattle.builder.specs.RoomLaws.{fits-is}
 use Rattle.builder.specs.Rooms.{room_of_blocks}
 use mathlib.Core.Path.{◌∙◌}
 use native.Mathlib.Omega.{arith}
-use borrow.Author.Rules.{rules}
 use Rattle.builder.proofs.fits_lent.Goals as goal
 
 pub state_fits-requires : goal.state_fits-requires

@@ -1,5 +1,4 @@
 use Rattle.copy.specs.OverLaws.{tail-paste}
-use borrow.Author.Rules.{rules}
 use Rattle.builder.proofs.lay.Goals as goal
 
 pub returns : goal.returns

@@ -1,5 +1,4 @@
 use Rattle.bounds.specs.Bounds.{row-limit-is}
-use borrow.Author.Rules.{rules}
 use Rattle.builder.proofs.places_room.Goals as goal
 
 pub returns-in-Off : goal.returns-in-Off

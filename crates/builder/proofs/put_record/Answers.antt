@@ -1,7 +1,6 @@
-use Rattle.builder.specs.StepLaws.{record-none, record-open}
+use Rattle.builder.proofs.StepLaws.{record-none, record-open}
 use Rattle.builder.specs.RoomLaws.{all-open}
 use native.Mathlib.Omega.{arith}
-use borrow.Author.Rules.{rules}
 use Rattle.builder.proofs.put_record.Goals as goal
 
 pub returns-then-fill-eq0 : goal.returns-then-fill-eq0

@@ -1,7 +1,6 @@
 use Rattle.bounds.specs.Bounds.{row-limit-small}
 use native.Mathlib.Numerals.{add-one}
 use native.Mathlib.Omega.{arith}
-use borrow.Author.Rules.{rules}
 use Rattle.builder.proofs.row_more.Goals as goal
 
 pub overflow_add-t : goal.overflow_add-t

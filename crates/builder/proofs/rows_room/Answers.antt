@@ -3,7 +3,6 @@ use Rattle.builder.specs.RoomLaws.{map-enough}
 use mathlib.Core.Path.{◌≡◌, ◌∙◌}
 use Rattle.bounds.specs.Bounds.{row-limit-is}
 use Rattle.builder.specs.Rooms.{room_of_rows}
-use borrow.Author.Rules.{rules}
 use Rattle.builder.proofs.rows_room.Goals as goal
 
 pub returns : goal.returns

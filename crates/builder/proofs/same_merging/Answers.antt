@@ -1,5 +1,4 @@
 use mathlib.Core.Path.{sym}
-use borrow.Author.Rules.{rules}
 use Rattle.builder.proofs.same_merging.Goals as goal
 
 pub returns-in-UpTo : goal.returns-in-UpTo

@@ -2,7 +2,6 @@ use Rattle.builder.specs.RoomLaws.{all-bounds, fits-over-rows, fits-over-blocks,
 use mathlib.Core.Path.{◌∙◌}
 use Rattle.bounds.specs.Bounds.{block-limit-small}
 use native.Mathlib.Omega.{arith}
-use borrow.Author.Rules.{rules}
 use Rattle.builder.proofs.state_fits.Goals as goal
 
 pub returns-then-rows-s : goal.returns-then-rows-s

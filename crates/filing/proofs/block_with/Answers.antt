@@ -2,10 +2,8 @@ use Rattle.filing.specs.LayLaws.{laid-room, laid-no, laid-yes}
 use Rattle.builder.specs.State.{closed}
 use Rattle.builder.specs.declared.State.{State}
 use Rattle.bounds.specs.Bounds.{block-limit-small, byte-limit-small}
-use borrow.Author.Tests.{not-true, not-false}
 use mathlib.Core.Path.{sym, ap, ◌∙◌}
 use native.Mathlib.Omega.{arith}
-use borrow.Author.Rules.{rules}
 use Rattle.filing.proofs.block_with.Goals as goal
 
 pub returns-then-not-is_accepted : goal.returns-then-not-is_accepted

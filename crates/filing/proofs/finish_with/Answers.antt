@@ -1,10 +1,8 @@
 use mathlib.Core.Path.{sym, ◌∙◌}
 use Rattle.bounds.specs.Bounds.{block-limit-small}
-use borrow.Author.Tests.{not-true, not-false}
 use Rattle.filing.specs.FilesLaws.{fitted}
 use Rattle.filing.proofs.EndLaws.{ended-no, ended-finished}
 use native.Mathlib.Omega.{arith}
-use borrow.Author.Rules.{rules}
 use Rattle.filing.proofs.finish_with.Goals as goal
 
 pub returns-then-not-fits_with : goal.returns-then-not-fits_with

@@ -1,9 +1,7 @@
 -- `filing::get_with` meets its contract. Assumes nothing.
 use Rattle.filing.specs.RowLaws.{why-fit, why-late, why-bad, got-none, got-part}
 use mathlib.Core.Path.{refl, sym, ◌∙◌}
-use borrow.Author.Tests.{not-true, not-false}
 use Rattle.filing.specs.FilesLaws.{fitted}
-use borrow.Author.Rules.{rules}
 use Rattle.filing.proofs.get_with.Goals as goal
 
 pub returns-then-not-fits_with : goal.returns-then-not-fits_with

@@ -1,10 +1,8 @@
 use Rattle.bounds.specs.Bounds.{row-limit-small}
 use Rattle.builder.specs.Rooms.{room_of_blocks}
 use mathlib.Core.Path.{sym, ◌∙◌}
-use borrow.Author.Tests.{not-true, not-false}
 use Rattle.filing.proofs.EndLaws.{null-room, null-no, null-yes}
 use native.Mathlib.Omega.{arith}
-use borrow.Author.Rules.{rules}
 use Rattle.filing.proofs.null_with.Goals as goal
 
 pub why_null-w-requires : goal.why_null-w-requires

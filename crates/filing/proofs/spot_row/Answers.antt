@@ -1,9 +1,8 @@
 -- `filing::spot_row` meets its contract. Assumes nothing.
 use Rattle.bounds.specs.Bounds.{block-limit-small}
-use Rattle.column.specs.SpotLaws.{spot-lies}
+use Rattle.column.proofs.SpotLaws.{spot-lies}
 use Rattle.filing.specs.RowLaws.{row-stands}
 use native.Mathlib.Omega.{arith}
-use borrow.Author.Rules.{rules}
 use Rattle.filing.proofs.spot_row.Goals as goal
 
 pub all_blocks-requires : goal.all_blocks-requires

@@ -1,9 +1,7 @@
 use Rattle.bounds.specs.Bounds.{byte-limit-is, block-limit-small, byte-limit-small}
 use Rattle.filing.specs.LayLaws.{block_fit, block-long, block_room_lem, fits-small}
-use borrow.Author.Tests.{not-true, not-false}
 use mathlib.Core.Path.{sym, ◌∙◌}
 use native.Mathlib.Omega.{arith}
-use borrow.Author.Rules.{rules}
 use Rattle.filing.proofs.why_block.Goals as goal
 
 pub returns-then-not-fits_with : goal.returns-then-not-fits_with

@@ -1,9 +1,7 @@
 -- `filing::why_with` meets its contract. Assumes nothing.
 use Rattle.filing.specs.RowLaws.{why-fit, why-late, why-bad, why-fine}
 use mathlib.Core.Path.{sym, ◌∙◌}
-use borrow.Author.Tests.{not-true, not-false}
 use Rattle.filing.specs.FilesLaws.{fitted}
-use borrow.Author.Rules.{rules}
 use Rattle.filing.proofs.why_with.Goals as goal
 
 pub returns-then-not-fits_with : goal.returns-then-not-fits_with

@@ -6,11 +6,9 @@ use Rattle.basis.specs.Pick.{pick}
 use Rattle.builder.specs.State.{closed}
 use Rattle.builder.specs.declared.State.{State}
 use mathlib.Core.Path.{sym, ap, ◌∙◌}
-use borrow.Author.Tests.{not-true, not-false}
 use Rattle.bounds.specs.Bounds.{row-limit-small, block-limit-small, byte-limit-small}
 use Rattle.filing_columns.proofs.ColumnsLaws.{sourced-small, roomy, poured-no, poured-yes}
 use native.Mathlib.Omega.{arith}
-use borrow.Author.Rules.{rules}
 use Rattle.filing_columns.proofs.column_with.Goals as goal
 
 pub why_with-v-requires : goal.why_with-v-requires
@@ -22,8 +20,7 @@ pub returns-then-not-is_accepted : goal.returns-then-not-is_accepted
 returns-then-not-is_accepted c =
     let a = c.args in
     poured-no a.s a.views.now a.nulls.now a.srcviews.now a.srcnulls.now a.c a.bytes a.count a.places a.w
-    a.m _ c.why_with-v.ensures _ c.unpoured.ensures (sym c.is_accepted.ensures ∙ not-true _
-    c.if-not-is_accepted.true-raw)
+    a.m _ c.why_with-v.ensures _ c.unpoured.ensures (sym c.is_accepted.ensures ∙ c.if-not-is_accepted.true)
 
 pub close-t-requires : goal.close-t-requires
 close-t-requires c =
@@ -49,8 +46,7 @@ copy_column-requires c =
     let k = roomy a.s a.views.now a.nulls.now a.srcviews.now a.srcnulls.now a.c a.bytes a.count a.places a.w
     a.m _ c.why_with-v.ensures
     c.requires (sym
-    c.is_accepted.ensures ∙ not-false _
-    c.if-not-is_accepted.false-raw) in
+    c.is_accepted.ensures ∙ c.if-not-is_accepted.false) in
     (k.bits, omega (arith, k.rows, row-limit-small), k.srcbits, omega (arith, k.srcrows, row-limit-small))
 
 pub count_nulls-requires : goal.count_nulls-requires

@@ -1,7 +1,6 @@
 -- `filing_columns::counted` meets its contract. Assumes nothing.
 use mathlib.Core.Path.{refl, sym, ◌∙◌}
 use Rattle.bounds.specs.Refusals.{accepted-yes, accepted-no}
-use borrow.Author.Rules.{rules}
 use Rattle.filing_columns.proofs.counted.Goals as goal
 
 pub returns-then-is_accepted : goal.returns-then-is_accepted

@@ -1,7 +1,6 @@
 -- `filing_columns::lay_block` meets its contract. Assumes nothing.
 use mathlib.Core.Path.{◌∙◌}
 use Rattle.filing_columns.proofs.ColumnsLaws.{lay-is}
-use borrow.Author.Rules.{rules}
 use Rattle.filing_columns.proofs.lay_block.Goals as goal
 
 pub returns : goal.returns

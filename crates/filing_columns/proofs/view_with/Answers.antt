@@ -1,11 +1,9 @@
 -- `filing_columns::view_with` meets its contract. Assumes nothing.
 use mathlib.Core.Path.{sym, ◌∙◌}
-use borrow.Author.Tests.{not-true, not-false}
 use Rattle.bounds.specs.Bounds.{row-limit-small, byte-limit-small}
 use lib.ListN.{length-take}
 use Rattle.filing_columns.proofs.ViewsLaws.{shows, viewed-no, viewed-yes}
 use native.Mathlib.Omega.{arith}
-use borrow.Author.Rules.{rules}
 use Rattle.filing_columns.proofs.view_with.Goals as goal
 
 pub returns-then-not-is_accepted : goal.returns-then-not-is_accepted
@@ -32,24 +30,21 @@ pub overflow_mul-rows : goal.overflow_mul-rows
 overflow_mul-rows c =
     let a = c.args in
     let g = shows a.s a.views.now a.bytes.now a.nulls.now a.places.now a.count a.k a.offset a.n a.b _
-    c.why_view-w.ensures (sym c.is_accepted.ensures ∙ not-false _
-    c.if-not-is_accepted.false-raw) in
+    c.why_view-w.ensures (sym c.is_accepted.ensures ∙ c.if-not-is_accepted.false) in
     omega (arith, g.rows, row-limit-small)
 
 pub slice_bounds-put_view-end : goal.slice_bounds-put_view-end
 slice_bounds-put_view-end c =
     let a = c.args in
     let g = shows a.s a.views.now a.bytes.now a.nulls.now a.places.now a.count a.k a.offset a.n a.b _
-    c.why_view-w.ensures (sym c.is_accepted.ensures ∙ not-false _
-    c.if-not-is_accepted.false-raw) in
+    c.why_view-w.ensures (sym c.is_accepted.ensures ∙ c.if-not-is_accepted.false) in
     omega (arith, g.inside)
 
 pub put_view-requires : goal.put_view-requires
 put_view-requires c =
     let a = c.args in
     let g = shows a.s a.views.now a.bytes.now a.nulls.now a.places.now a.count a.k a.offset a.n a.b _
-    c.why_view-w.ensures (sym c.is_accepted.ensures ∙ not-false _
-    c.if-not-is_accepted.false-raw) in
+    c.why_view-w.ensures (sym c.is_accepted.ensures ∙ c.if-not-is_accepted.false) in
     (g.views, simp (length-take) (omega (arith, g.inside, g.small, byte-limit-small)))
 
 pub put_bit-requires : goal.put_bit-requires
@@ -57,8 +52,7 @@ put_bit-requires c =
     let a = c.args in
     let g = shows a.s a.views.now a.bytes.now a.nulls.now a.places.now a.count a.k a.offset a.n a.b _
     c.why_view-w.ensures (sym
-    c.is_accepted.ensures ∙ not-false _
-    c.if-not-is_accepted.false-raw) in
+    c.is_accepted.ensures ∙ c.if-not-is_accepted.false) in
     g.bits
 
 pub row_more-t-requires : goal.row_more-t-requires
@@ -69,8 +63,7 @@ row_more-t-requires c =
     c.args in
     let g = shows a.s a.views.now a.bytes.now a.nulls.now a.places.now a.count a.k a.offset a.n a.b _
     c.why_view-w.ensures (sym
-    c.is_accepted.ensures ∙ not-false _
-    c.if-not-is_accepted.false-raw) in
+    c.is_accepted.ensures ∙ c.if-not-is_accepted.false) in
     g.rows
 
 pub returns : goal.returns
@@ -81,6 +74,5 @@ returns c =
     c.args in
     viewed-yes a.s a.views.now a.bytes.now a.nulls.now a.places.now a.count a.k a.offset a.n a.b _
     c.why_view-w.ensures (sym
-    c.is_accepted.ensures ∙ not-false _
-    c.if-not-is_accepted.false-raw) c.row_more-t.ensures
+    c.is_accepted.ensures ∙ c.if-not-is_accepted.false) c.row_more-t.ensures
     c.put_view.ensures c.put_bit.ensures

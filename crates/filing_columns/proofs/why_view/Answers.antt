@@ -1,13 +1,11 @@
 -- `filing_columns::why_view` meets its contract. Assumes nothing.
 use mathlib.Core.Path.{sym, ◌∙◌}
-use borrow.Author.Tests.{not-true, not-false}
 use Rattle.bounds.specs.Bounds.{byte-limit-small}
 use mathlib.Core.List.{[]}
 use Rattle.column.specs.Lent.{buffers}
-use Rattle.column.specs.FitLaws.{in-data-gives}
+use Rattle.column.proofs.FitLaws.{in-data-gives}
 use Rattle.filing_columns.proofs.ViewsLaws.{says-fit, says_none, says-outside, says-over, says-kind, says-full, says-fine}
 use native.Mathlib.Omega.{arith}
-use borrow.Author.Rules.{rules}
 use Rattle.filing_columns.proofs.why_view.Goals as goal
 
 pub returns-then-not-fits_with : goal.returns-then-not-fits_with
@@ -39,30 +37,26 @@ returns-then-size-o c =
 pub overflow_add-a : goal.overflow_add-a
 overflow_add-a c =
     let a = c.args in
-    let d = in-data-gives (buffers [] a.bytes.now [] []) a.b.start a.b.len (sym c.in_data.ensures ∙ not-false _
-    c.if-not-in_data.false-raw) in
+    let d = in-data-gives (buffers [] a.bytes.now [] []) a.b.start a.b.len (sym c.in_data.ensures ∙ c.if-not-in_data.false) in
     omega (arith, d, c.if-size-o.false, byte-limit-small)
 
 pub overflow_add-e : goal.overflow_add-e
 overflow_add-e c =
     let a = c.args in
-    let d = in-data-gives (buffers [] a.bytes.now [] []) a.b.start a.b.len (sym c.in_data.ensures ∙ not-false _
-    c.if-not-in_data.false-raw) in
+    let d = in-data-gives (buffers [] a.bytes.now [] []) a.b.start a.b.len (sym c.in_data.ensures ∙ c.if-not-in_data.false) in
     omega (arith, d, c.if-size-o.false, byte-limit-small)
 
 pub slice_bounds-of_kind-end : goal.slice_bounds-of_kind-end
 slice_bounds-of_kind-end c =
     let a = c.args in
-    let d = in-data-gives (buffers [] a.bytes.now [] []) a.b.start a.b.len (sym c.in_data.ensures ∙ not-false _
-    c.if-not-in_data.false-raw) in
+    let d = in-data-gives (buffers [] a.bytes.now [] []) a.b.start a.b.len (sym c.in_data.ensures ∙ c.if-not-in_data.false) in
     omega (arith, d, c.if-size-o.false)
 
 pub returns-then-not-of_kind : goal.returns-then-not-of_kind
 returns-then-not-of_kind c =
     let a = c.args in
     says-kind a.s a.views.now a.bytes.now a.nulls.now a.places.now a.count a.k a.offset a.n a.b (sym
-    c.fits_with.ensures ∙ not-false _
-    c.if-not-fits_with.false-raw) c.if-s-k.false
+    c.fits_with.ensures ∙ c.if-not-fits_with.false) c.if-s-k.false
     (sym c.in_data.ensures ∙ c.if-not-in_data.false)
     c.if-size-o.false _ c.of_kind.ensures (c.if-not-of_kind.true)
 
@@ -70,20 +64,16 @@ pub returns-then-rows_room-rows : goal.returns-then-rows_room-rows
 returns-then-rows_room-rows c =
     let a = c.args in
     says-full a.s a.views.now a.bytes.now a.nulls.now a.places.now a.count a.k a.offset a.n a.b (sym
-    c.fits_with.ensures ∙ not-false _
-    c.if-not-fits_with.false-raw)
+    c.fits_with.ensures ∙ c.if-not-fits_with.false)
     c.if-s-k.false (sym
-    c.in_data.ensures ∙ not-false _
-    c.if-not-in_data.false-raw) c.if-size-o.false _
+    c.in_data.ensures ∙ c.if-not-in_data.false) c.if-size-o.false _
     c.of_kind.ensures _ c.rows_room.ensures (c.if-not-of_kind.false) c.if-rows_room-rows.true
 
 pub returns : goal.returns
 returns c =
     let a = c.args in
     says-fine a.s a.views.now a.bytes.now a.nulls.now a.places.now a.count a.k a.offset a.n a.b (sym
-    c.fits_with.ensures ∙ not-false _
-    c.if-not-fits_with.false-raw)
+    c.fits_with.ensures ∙ c.if-not-fits_with.false)
     c.if-s-k.false (sym
-    c.in_data.ensures ∙ not-false _
-    c.if-not-in_data.false-raw) c.if-size-o.false _
+    c.in_data.ensures ∙ c.if-not-in_data.false) c.if-size-o.false _
     c.of_kind.ensures _ c.rows_room.ensures (c.if-not-of_kind.false) c.if-rows_room-rows.false

@@ -6,7 +6,6 @@ use Rattle.filing.specs.FilesLaws.{blank}
 use Rattle.bounds.specs.Bounds.{row-limit-small}
 use mathlib.Core.Path.{sym, ap, ◌∙◌}
 use native.Mathlib.Omega.{arith}
-use borrow.Author.Rules.{rules}
 use Rattle.filing_values.proofs.add_with.Goals as goal
 
 pub overflow_mul-rows : goal.overflow_mul-rows
@@ -30,14 +29,13 @@ row_more-t-requires c =
     c.args.nulls.now c.args.places.now c.requires.0.room in g.rows
 
 pub returns-then-x-le-SHORT_MOST : goal.returns-then-x-le-SHORT_MOST
-returns-then-x-le-SHORT_MOST c =
-    (
-      λ z. ap (λ (z : State). z.rows) c.row_more-t.ensures ∙ sym (add-one _),
-      λ t e h. files-short c.args.s c.args.views.now
-          c.args.bytes.now c.args.nulls.now c.args.places.now c.args.x.now c.args.count _ c.if-x-le-SHORT_MOST.true
-          c.row_more-t.ensures c.short_view.ensures
-          c.put_bit.ensures t e,
-    )
+returns-then-x-le-SHORT_MOST c = (
+  λ z. ap (λ (z : State). z.rows) c.row_more-t.ensures ∙ sym (add-one _),
+  λ t e h. files-short c.args.s c.args.views.now
+      c.args.bytes.now c.args.nulls.now c.args.places.now c.args.x.now c.args.count _ c.if-x-le-SHORT_MOST.true
+      c.row_more-t.ensures c.short_view.ensures
+      c.put_bit.ensures t e,
+)
 
 pub long_with-requires : goal.long_with-requires
 long_with-requires c =

@@ -1,5 +1,4 @@
 use native.Mathlib.Omega.{arith}
-use borrow.Author.Rules.{rules}
 use Rattle.filing_values.proofs.asks.Goals as goal
 
 pub returns-then-places-place : goal.returns-then-places-place

@@ -1,6 +1,6 @@
 use native.Mathlib.Numerals.{add-one}
-use Rattle.builder.specs.CallLaws.{bytes-room-le}
-use Rattle.builder.specs.PutLaws.{room-used, room-blocks, room-fill, room-rows, lay-room}
+use Rattle.builder.proofs.CallLaws.{bytes-room-le}
+use Rattle.builder.proofs.PutLaws.{room-used, room-blocks, room-fill, room-rows, lay-room}
 use Rattle.builder.specs.State.{used}
 use Rattle.bounds.specs.Refusals.{is_accepted}
 use Rattle.builder.specs.declared.State.{State}
@@ -11,10 +11,8 @@ use Rattle.filing.specs.FilesLaws.{blank}
 use Rattle.bounds.specs.Bounds.{row-limit-small, block-limit-small, byte-limit-small}
 use lib.ListN.{length}
 use Prim.Native.Nat.{suc}
-use borrow.Author.Tests.{not-true, not-false}
 use mathlib.Core.Path.{sym, ap, ◌∙◌}
 use native.Mathlib.Omega.{arith}
-use borrow.Author.Rules.{rules}
 use Rattle.filing_values.proofs.long_with.Goals as goal
 
 pub copy_view-requires : goal.copy_view-requires
@@ -36,14 +34,13 @@ row_more-t-requires c =
     c.args.nulls.now c.args.places.now c.requires.0.room in g.rows
 
 pub returns-then-is_row : goal.returns-then-is_row
-returns-then-is_row c =
-    (
-      λ z. ap (λ (z : State). z.rows) c.row_more-t.ensures ∙ sym (add-one _),
-      files-row c.args.s c.args.views.now
-          c.args.bytes.now c.args.nulls.now c.args.places.now c.args.x.now c.args.count _ c.requires.0
-          c.requires.1 _ _ _ c.is_row.ensures c.if-is_row.true c.row_of.ensures c.row_more-t.ensures
-          c.copy_view.ensures c.put_bit.ensures,
-    )
+returns-then-is_row c = (
+  λ z. ap (λ (z : State). z.rows) c.row_more-t.ensures ∙ sym (add-one _),
+  files-row c.args.s c.args.views.now
+      c.args.bytes.now c.args.nulls.now c.args.places.now c.args.x.now c.args.count _ c.requires.0
+      c.requires.1 _ _ _ c.is_row.ensures c.if-is_row.true c.row_of.ensures c.row_more-t.ensures
+      c.copy_view.ensures c.put_bit.ensures,
+)
 
 pub why_lay-w-requires : goal.why_lay-w-requires
 why_lay-w-requires c =
@@ -52,16 +49,15 @@ why_lay-w-requires c =
     (omega (arith, f.blocks, block-limit-small), omega (arith, f.small, c.requires.0.small, byte-limit-small))
 
 pub returns-then-not-is_accepted : goal.returns-then-not-is_accepted
-returns-then-not-is_accepted c =
-    (
-      λ z. absurd (true≢false (sym z ∙ sym c.is_accepted.ensures ∙ c.if-not-is_accepted.true)),
-      files-full c.args.s
-          c.args.views.now c.args.bytes.now c.args.nulls.now c.args.places.now c.args.x.now c.args.count _
-          c.requires.0 c.requires.1 _ c.is_row.ensures
-          c.if-is_row.false _ _ _ c.blocks_room.ensures
-          c.bytes_room.ensures c.why_lay-w.ensures (sym c.is_accepted.ensures
-          ∙ c.if-not-is_accepted.true) _,
-    )
+returns-then-not-is_accepted c = (
+  λ z. absurd (true≢false (sym z ∙ sym c.is_accepted.ensures ∙ c.if-not-is_accepted.true)),
+  files-full c.args.s
+      c.args.views.now c.args.bytes.now c.args.nulls.now c.args.places.now c.args.x.now c.args.count _
+      c.requires.0 c.requires.1 _ c.is_row.ensures
+      c.if-is_row.false _ _ _ c.blocks_room.ensures
+      c.bytes_room.ensures c.why_lay-w.ensures (sym c.is_accepted.ensures
+      ∙ c.if-not-is_accepted.true) _,
+)
 
 pub enter-requires : goal.enter-requires
 enter-requires c =
@@ -76,13 +72,13 @@ room_record-e-requires c =
 pub room_state-t-requires : goal.room_state-t-requires
 room_state-t-requires c =
     let f = fits_gives c.args.s c.args.views.now c.args.bytes.now (blank c.args.count) (blank c.args.count)
-    c.args.nulls.now c.args.places.now c.pre.0.fit in
-    (omega (arith, f.blocks, block-limit-small), omega (arith, f.small, c.pre.0.small, byte-limit-small), f.growth)
+    c.args.nulls.now c.args.places.now c.requires.0.fit in
+    (omega (arith, f.blocks, block-limit-small), omega (arith, f.small, c.requires.0.small, byte-limit-small), f.growth)
 
 pub overflow_add-base : goal.overflow_add-base
 overflow_add-base c =
     let f = fits_gives c.args.s c.args.views.now c.args.bytes.now (blank c.args.count) (blank c.args.count)
-    c.args.nulls.now c.args.places.now c.pre.0.fit in let u = ap used c.room_state-t.ensures
+    c.args.nulls.now c.args.places.now c.requires.0.fit in let u = ap used c.room_state-t.ensures
     ∙ room-used c.args.s (length c.args.x.now) in omega (arith, u, f.small, byte-limit-small)
 
 pub lay-requires : goal.lay-requires
@@ -96,39 +92,39 @@ lay-requires c =
 pub overflow_mul-rows : goal.overflow_mul-rows
 overflow_mul-rows c =
     let g = room-gives c.args.s c.args.views.now c.args.bytes.now (blank c.args.count) (blank c.args.count)
-    c.args.nulls.now c.args.places.now c.pre.0.room in omega (arith, g.rows, row-limit-small)
+    c.args.nulls.now c.args.places.now c.requires.0.room in omega (arith, g.rows, row-limit-small)
 
 pub overflow_cast-number : goal.overflow_cast-number
 overflow_cast-number c =
     let f = fits_gives c.args.s c.args.views.now c.args.bytes.now (blank c.args.count) (blank c.args.count)
-    c.args.nulls.now c.args.places.now c.pre.0.fit in
+    c.args.nulls.now c.args.places.now c.requires.0.fit in
     let u = ap (λ (z : State). z.blocks) c.room_state-t.ensures in
     omega (arith, u, room-blocks c.args.s (length c.args.x.now), f.blocks, block-limit-small)
 
 pub overflow_cast-fill : goal.overflow_cast-fill
 overflow_cast-fill c =
     let f = fits_gives c.args.s c.args.views.now c.args.bytes.now (blank c.args.count) (blank c.args.count)
-    c.args.nulls.now c.args.places.now c.pre.0.fit in
+    c.args.nulls.now c.args.places.now c.requires.0.fit in
     let u = ap (λ (z : State). z.fill) c.room_state-t.ensures in
     omega (arith, u, room-fill c.args.s (length c.args.x.now), f.small, byte-limit-small)
 
 pub long_view-requires : goal.long_view-requires
 long_view-requires c =
     let g = room-gives c.args.s c.args.views.now c.args.bytes.now (blank c.args.count) (blank c.args.count)
-    c.args.nulls.now c.args.places.now c.pre.0.room in
-    (g.views, omega (arith, c.pre.1), omega (arith, c.pre.0.small, byte-limit-small))
+    c.args.nulls.now c.args.places.now c.requires.0.room in
+    (g.views, omega (arith, c.requires.1), omega (arith, c.requires.0.small, byte-limit-small))
 
 pub put_bit-requires-2 : goal.put_bit-requires-2
 put_bit-requires-2 c =
     let g = room-gives c.args.s c.args.views.now c.args.bytes.now (blank c.args.count) (blank c.args.count)
-    c.args.nulls.now c.args.places.now c.pre.0.room in g.bits
+    c.args.nulls.now c.args.places.now c.requires.0.room in g.bits
 
 pub stored-u-requires : goal.stored-u-requires
 stored-u-requires c =
     let f = fits_gives c.args.s c.args.views.now c.args.bytes.now (blank c.args.count) (blank c.args.count)
-    c.args.nulls.now c.args.places.now c.pre.0.fit in
+    c.args.nulls.now c.args.places.now c.requires.0.fit in
     let g = room-gives c.args.s c.args.views.now c.args.bytes.now (blank c.args.count) (blank c.args.count)
-    c.args.nulls.now c.args.places.now c.pre.0.room in let u = ap (λ (z : State). z.rows) c.room_state-t.ensures in
+    c.args.nulls.now c.args.places.now c.requires.0.room in let u = ap (λ (z : State). z.rows) c.room_state-t.ensures in
     let v = ap (λ (z : State). z.fill) c.room_state-t.ensures in (
       omega (arith, u, room-rows c.args.s (length c.args.x.now), g.rows),
       omega (
@@ -137,21 +133,20 @@ stored-u-requires c =
         room-fill c.args.s
             (length c.args.x.now),
         f.small,
-        c.pre.0.small,
+        c.requires.0.small,
         byte-limit-small,
       ),
     )
 
 pub returns : goal.returns
-returns c =
-    (
-      λ z. ap (λ (z : State). z.rows) c.stored-u.ensures
-          ∙ (λ i. suc ((ap (λ (z : State). z.rows) c.room_state-t.ensures ∙ room-rows c.args.s (length c.args.x.now)) i))
-          ∙ sym (add-one _),
-      files-lay c.args.s c.args.views.now c.args.bytes.now c.args.nulls.now
-          c.args.places.now c.args.x.now c.args.count _ c.requires.0 c.requires.1 _ c.is_row.ensures c.if-is_row.false _ _
-          _ c.blocks_room.ensures c.bytes_room.ensures c.why_lay-w.ensures _ _ _ (sym c.is_accepted.ensures
-          ∙ c.if-not-is_accepted.false) c.room_state-t.ensures c.room_record-e.ensures c.stored-u.ensures
-          c.long_view.ensures c.lay.ensures
-          c.put_bit-2.ensures c.enter.ensures,
-    )
+returns c = (
+  λ z. ap (λ (z : State). z.rows) c.stored-u.ensures
+      ∙ (λ i. suc ((ap (λ (z : State). z.rows) c.room_state-t.ensures ∙ room-rows c.args.s (length c.args.x.now)) i))
+      ∙ sym (add-one _),
+  files-lay c.args.s c.args.views.now c.args.bytes.now c.args.nulls.now
+      c.args.places.now c.args.x.now c.args.count _ c.requires.0 c.requires.1 _ c.is_row.ensures c.if-is_row.false _ _
+      _ c.blocks_room.ensures c.bytes_room.ensures c.why_lay-w.ensures _ _ _ (sym c.is_accepted.ensures
+      ∙ c.if-not-is_accepted.false) c.room_state-t.ensures c.room_record-e.ensures c.stored-u.ensures
+      c.long_view.ensures c.lay.ensures
+      c.put_bit-2.ensures c.enter.ensures,
+)

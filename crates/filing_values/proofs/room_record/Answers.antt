@@ -1,5 +1,4 @@
 use Rattle.filing_values.proofs.ValueLaws.{room-keeps, room-opens}
-use borrow.Author.Rules.{rules}
 use Rattle.filing_values.proofs.room_record.Goals as goal
 
 pub returns-then-fits_open : goal.returns-then-fits_open

@@ -1,7 +1,6 @@
-use Rattle.builder.specs.StepLaws.{pick_yes, pick_no}
+use Rattle.builder.proofs.StepLaws.{pick_yes, pick_no}
 use Rattle.builder.specs.State.{roomed}
 use mathlib.Core.Path.{refl}
-use borrow.Author.Rules.{rules}
 use Rattle.filing_values.proofs.room_state.Goals as goal
 
 pub returns-then-fits_open : goal.returns-then-fits_open

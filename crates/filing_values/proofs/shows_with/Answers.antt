@@ -1,12 +1,10 @@
 use Rattle.filing.specs.RowLaws.{or-start, or-size}
 use Rattle.builder.specs.SearchLaws.{shows-late, shows-length, shows-past, shows-no-data, shows-over, shows-here}
 use Rattle.builder.specs.RoomLaws.{all-bounds}
-use Rattle.column.specs.FitLaws.{in-data-gives}
+use Rattle.column.proofs.FitLaws.{in-data-gives}
 use Rattle.bounds.specs.Bounds.{block-limit-is, block-limit-small, byte-limit-small}
-use borrow.Author.Tests.{not-true, not-false}
 use mathlib.Core.Path.{sym, ◌∙◌}
 use native.Mathlib.Omega.{arith}
-use borrow.Author.Rules.{rules}
 use Rattle.filing_values.proofs.shows_with.Goals as goal
 
 pub returns-then-s-r : goal.returns-then-s-r

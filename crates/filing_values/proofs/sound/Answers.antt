@@ -1,5 +1,4 @@
 use Rattle.filing_values.proofs.QuestLaws.{sound-row, sound-late, sound-free, sound-far, sound_none}
-use borrow.Author.Rules.{rules}
 use Rattle.filing_values.proofs.sound.Goals as goal
 
 pub returns-then-k-rows : goal.returns-then-k-rows

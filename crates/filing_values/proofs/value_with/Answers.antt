@@ -3,10 +3,8 @@ use Rattle.filing_values.proofs.ValueLaws.{times-no, times_none, times-judged, t
 use Rattle.builder.specs.RoomLaws.{room-many}
 use Rattle.filing.specs.FilesLaws.{blank}
 use Rattle.bounds.specs.Bounds.{row-limit-small}
-use borrow.Author.Tests.{not-true, not-false}
 use mathlib.Core.Path.{sym, ◌∙◌}
 use native.Mathlib.Omega.{arith}
-use borrow.Author.Rules.{rules}
 use Rattle.filing_values.proofs.value_with.Goals as goal
 
 pub why_first-w-requires : goal.why_first-w-requires
@@ -56,7 +54,7 @@ pub overflow_add-rows : goal.overflow_add-rows
 overflow_add-rows c =
     let j = times-judged c.args.s c.args.views.now c.args.bytes.now c.args.nulls.now c.args.places.now
     c.args.x.now c.args.count c.args.n _ _ _ c.rows_room-room.ensures c.blocks_room.ensures c.bytes_room.ensures
-    _ c.why_first-w.ensures (sym c.is_accepted.ensures ∙ not-false _ c.if-not-is_accepted.left) c.if-n-eq0.left in
+    _ c.why_first-w.ensures (sym c.is_accepted.ensures ∙ c.if-not-is_accepted.false) c.if-n-eq0.false in
     let m = room-many c.args.s c.args.views.now c.args.bytes.now (blank c.args.count) (blank c.args.count)
     c.args.nulls.now c.args.places.now c.args.n j.1 in omega (arith, m, row-limit-small)
 
@@ -66,13 +64,13 @@ copy_rows-requires c =
     c.args.x.now c.args.count c.args.n _ _ _ c.rows_room-room.ensures c.blocks_room.ensures c.bytes_room.ensures
     _ c.why_first-w.ensures (sym c.is_accepted.ensures ∙ c.if-not-is_accepted.false) c.if-n-eq0.false in
     let m = room-many c.args.s c.args.views.now c.args.bytes.now (blank c.args.count) (blank c.args.count)
-    c.args.nulls.now c.args.places.now c.args.n j.1 in (omega arith, omega (arith, m, c.add_with-r.auto.1.0, c.if-n-eq0.false))
+    c.args.nulls.now c.args.places.now c.args.n j.1 in (omega arith, omega (arith, m, c.add_with-r.auto.views, c.if-n-eq0.false))
 
 pub overflow_add-rows-2 : goal.overflow_add-rows-2
 overflow_add-rows-2 c =
     let j = times-judged c.args.s c.args.views.now c.args.bytes.now c.args.nulls.now c.args.places.now
     c.args.x.now c.args.count c.args.n _ _ _ c.rows_room-room.ensures c.blocks_room.ensures c.bytes_room.ensures
-    _ c.why_first-w.ensures (sym c.is_accepted.ensures ∙ not-false _ c.if-not-is_accepted.left) c.if-n-eq0.left in
+    _ c.why_first-w.ensures (sym c.is_accepted.ensures ∙ c.if-not-is_accepted.false) c.if-n-eq0.false in
     let m = room-many c.args.s c.args.views.now c.args.bytes.now (blank c.args.count) (blank c.args.count)
     c.args.nulls.now c.args.places.now c.args.n j.1 in omega (arith, m, row-limit-small)
 
@@ -80,10 +78,10 @@ pub put_run-requires : goal.put_run-requires
 put_run-requires c =
     let j = times-judged c.args.s c.args.views.now c.args.bytes.now c.args.nulls.now c.args.places.now
     c.args.x.now c.args.count c.args.n _ _ _ c.rows_room-room.ensures c.blocks_room.ensures c.bytes_room.ensures
-    _ c.why_first-w.ensures (sym c.is_accepted.ensures ∙ not-false _ c.if-not-is_accepted.left) c.if-n-eq0.left in
+    _ c.why_first-w.ensures (sym c.is_accepted.ensures ∙ c.if-not-is_accepted.false) c.if-n-eq0.false in
     let m = room-many c.args.s c.args.views.now c.args.bytes.now (blank c.args.count) (blank c.args.count)
     c.args.nulls.now c.args.places.now c.args.n j.1 in
-    (omega (arith, m, c.add_with-r.kept.1.1.1.1.0, c.if-n-eq0.left), omega (arith, m, row-limit-small))
+    (omega (arith, m, c.add_with-r.auto.nulls, c.if-n-eq0.false), omega (arith, m, row-limit-small))
 
 pub rows_more-u-requires : goal.rows_more-u-requires
 rows_more-u-requires c =

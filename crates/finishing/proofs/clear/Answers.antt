@@ -1,5 +1,4 @@
 use Rattle.finishing.specs.EndLaws.{clear-off, clear-on}
-use borrow.Author.Rules.{rules}
 use Rattle.finishing.proofs.clear.Goals as goal
 
 pub returns-then-is_off : goal.returns-then-is_off

@@ -1,10 +1,8 @@
 use Rattle.builder.specs.RoomLaws.{fits_gives}
 use Rattle.finishing.specs.EndLaws.{does-refused, does-finished}
 use Rattle.bounds.specs.Bounds.{block-limit-small}
-use borrow.Author.Tests.{not-true, not-false}
 use mathlib.Core.Path.{sym, ◌∙◌}
 use native.Mathlib.Omega.{arith}
-use borrow.Author.Rules.{rules}
 use Rattle.finishing.proofs.finish.Goals as goal
 
 pub returns-then-not-fits_lent : goal.returns-then-not-fits_lent

@@ -1,12 +1,10 @@
 -- `finishing::get_value` meets its contract. Assumes nothing.
 use Rattle.column.specs.Spot.{points_to}
 use mathlib.Core.Path.{refl, sym, ap, ◌∙◌}
-use borrow.Author.Tests.{not-true, not-false}
 use Rattle.bounds.specs.Refusals.{is_accepted}
-use Rattle.finishing.specs.GetLaws.{got, value-no, value-yes, points-no, points-yes, row_lies, row-shown}
+use Rattle.finishing.proofs.GetLaws.{got, value-no, value-yes, points-no, points-yes, row_lies, row-shown}
 use Rattle.builder.specs.RoomLaws.{fits_gives, ready}
 use native.Mathlib.Omega.{arith}
-use borrow.Author.Rules.{rules}
 use Rattle.finishing.proofs.get_value.Goals as goal
 
 pub returns-then-not-is_accepted : goal.returns-then-not-is_accepted

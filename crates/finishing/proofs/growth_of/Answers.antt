@@ -1,5 +1,4 @@
 use Rattle.growth.specs.Growing.{start_size}
-use borrow.Author.Rules.{rules}
 use Rattle.finishing.proofs.growth_of.Goals as goal
 
 pub returns-in-Doubled : goal.returns-in-Doubled

@@ -1,4 +1,3 @@
-use borrow.Author.Rules.{rules}
 use Rattle.finishing.proofs.lawful_merging.Goals as goal
 
 pub returns-in-UpTo : goal.returns-in-UpTo

@@ -1,9 +1,8 @@
 -- `finishing::record_row` meets its contract. Assumes nothing.
 use mathlib.Core.List.{[]}
 use Rattle.builder.specs.RoomLaws.{all-bounds}
-use Rattle.finishing.specs.GetLaws.{row-record}
+use Rattle.finishing.proofs.GetLaws.{row-record}
 use native.Mathlib.Omega.{arith}
-use borrow.Author.Rules.{rules}
 use Rattle.finishing.proofs.record_row.Goals as goal
 
 pub returns-then-view_len-le-SHORT_MOST : goal.returns-then-view_len-le-SHORT_MOST

@@ -1,6 +1,5 @@
 -- `finishing::spot_row` meets its contract. Assumes nothing.
-use Rattle.finishing.specs.GetLaws.{row-spot}
-use borrow.Author.Rules.{rules}
+use Rattle.finishing.proofs.GetLaws.{row-spot}
 use Rattle.finishing.proofs.spot_row.Goals as goal
 
 pub returns : goal.returns

@@ -1,9 +1,7 @@
 use Rattle.builder.specs.Start.{empty_state}
 use Rattle.growth.specs.declared.Growth.{Growth}
 use Rattle.finishing.specs.EndLaws.{start-no, start-yes}
-use borrow.Author.Tests.{not-true, not-false}
 use mathlib.Core.Path.{sym, ap, ◌∙◌}
-use borrow.Author.Rules.{rules}
 use Rattle.finishing.proofs.start.Goals as goal
 
 pub returns-then-not-lawful_sizes : goal.returns-then-not-lawful_sizes

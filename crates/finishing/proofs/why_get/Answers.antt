@@ -1,9 +1,7 @@
 -- `finishing::why_get` meets its contract. Assumes nothing.
 use mathlib.Core.Path.{sym, ◌∙◌}
-use borrow.Author.Tests.{not-true, not-false}
-use Rattle.finishing.specs.GetLaws.{get_fit, get-late, get-bad, get-fine, row-reach}
+use Rattle.finishing.proofs.GetLaws.{get_fit, get-late, get-bad, get-fine, row-reach}
 use Rattle.builder.specs.RoomLaws.{fits_gives, ready}
-use borrow.Author.Rules.{rules}
 use Rattle.finishing.proofs.why_get.Goals as goal
 
 pub returns-then-not-fits_lent : goal.returns-then-not-fits_lent

@@ -1,10 +1,9 @@
 use mathlib.Core.List.{List}
 use Rattle.finishing.specs.EndLaws.{zeroed, zeroed-more, length-zeroed, zeroed-all}
-use Prim.Native.Nat.{ℕ, ◌+◌, ◌-◌, ◌≤◌}
+use Prim.Native.Nat.{ℕ, ◌+◌}
 use lib.ListN.{length, set}
 use mathlib.Core.Path.{◌≡◌, refl, ap, ◌∙◌}
 use native.Mathlib.Omega.{arith}
-use borrow.Author.Rules.{rules}
 use Rattle.finishing.proofs.zero_all.Goals as goal
 
 pub loop-k-init : goal.loop-k-init

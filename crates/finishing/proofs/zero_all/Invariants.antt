@@ -1,10 +1,7 @@
-use mathlib.Core.List.{List}
-use Rattle.finishing.specs.EndLaws.{zeroed, zeroed-more, length-zeroed, zeroed-all}
-use Prim.Native.Nat.{ℕ, ◌+◌, ◌-◌, ◌≤◌}
-use lib.ListN.{length, set}
-use mathlib.Core.Path.{◌≡◌, refl, ap, ◌∙◌}
-use native.Mathlib.Omega.{arith}
-use borrow.Author.Rules.{rules}
+use Rattle.finishing.specs.EndLaws.{zeroed}
+use Prim.Native.Nat.{◌-◌, ◌≤◌}
+use lib.ListN.{length}
+use mathlib.Core.Path.{◌≡◌}
 use Rattle.finishing.proofs.zero_all.Given as goal
 
 abbrev pub invariant-loop-k : goal.invariant-loop-k

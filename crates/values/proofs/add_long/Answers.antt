@@ -3,14 +3,12 @@ use Rattle.builder.specs.RoomLaws.{fits_gives, room-gives, ready}
 use lib.ListN.{length}
 use Rattle.builder.specs.declared.State.{State}
 use Rattle.builder.specs.State.{used}
-use Rattle.builder.specs.PutLaws.{row_lt, free-lt, room-rows, room-used, room-fill, room-blocks, lay-room}
-use Rattle.builder.specs.CallLaws.{bytes-room-le, does-row, lay-is, does-lay}
+use Rattle.builder.proofs.PutLaws.{row_lt, free-lt, room-rows, room-used, room-fill, room-blocks, lay-room}
+use Rattle.builder.proofs.CallLaws.{bytes-room-le, does-row, lay-is, does-lay}
 use Rattle.bounds.specs.Bounds.{row-limit-small, block-limit-small, byte-limit-small}
 use Rattle.bounds.specs.Refusals.{is_accepted}
-use borrow.Author.Tests.{not-true, not-false}
 use mathlib.Core.Path.{sym, ap, ◌∙◌}
 use native.Mathlib.Omega.{arith}
-use borrow.Author.Rules.{rules}
 use Rattle.values.proofs.add_long.Goals as goal
 
 pub find-f-requires : goal.find-f-requires
@@ -31,13 +29,13 @@ copy_view-requires c =
 pub put_bit-requires : goal.put_bit-requires
 put_bit-requires c =
     let a = c.args in
-    let g = room-gives a.s a.views.now a.bytes.now a.starts.now a.lens.now a.nulls.now a.places.now c.pre.0.room in
+    let g = room-gives a.s a.views.now a.bytes.now a.starts.now a.lens.now a.nulls.now a.places.now c.requires.0.room in
     g.bits
 
 pub row_more-t-requires : goal.row_more-t-requires
 row_more-t-requires c =
     let a = c.args in
-    let g = room-gives a.s a.views.now a.bytes.now a.starts.now a.lens.now a.nulls.now a.places.now c.pre.0.room in
+    let g = room-gives a.s a.views.now a.bytes.now a.starts.now a.lens.now a.nulls.now a.places.now c.requires.0.room in
     g.rows
 
 pub returns-then-is_row : goal.returns-then-is_row
@@ -54,8 +52,8 @@ why_lay-w-requires c =
 
 pub returns-then-not-is_accepted : goal.returns-then-not-is_accepted
 returns-then-not-is_accepted c =
-    does-no _ _ _ _ _ _ _ _ _ _ (lay-is _ _ _ _ _ _ _ _ _ c.pre.0.fit
-    c.find-f.ensures c.pre.1 _
+    does-no _ _ _ _ _ _ _ _ _ _ (lay-is _ _ _ _ _ _ _ _ _ c.requires.0.fit
+    c.find-f.ensures c.requires.1 _
     c.is_row.ensures c.if-is_row.false _ _ _
     c.blocks_room.ensures c.bytes_room.ensures
     c.why_lay-w.ensures) (sym c.is_accepted.ensures ∙ c.if-not-is_accepted.true)
@@ -69,13 +67,13 @@ enter-requires c =
 pub make_room-t-requires : goal.make_room-t-requires
 make_room-t-requires c =
     let a = c.args in
-    let f = fits_gives a.s a.views.now a.bytes.now a.starts.now a.lens.now a.nulls.now a.places.now c.pre.0.fit in
-    (f.starts, f.lens, omega (arith, f.small, c.pre.0.small, byte-limit-small), f.growth)
+    let f = fits_gives a.s a.views.now a.bytes.now a.starts.now a.lens.now a.nulls.now a.places.now c.requires.0.fit in
+    (f.starts, f.lens, omega (arith, f.small, c.requires.0.small, byte-limit-small), f.growth)
 
 pub overflow_add-base : goal.overflow_add-base
 overflow_add-base c =
     let a = c.args in
-    let f = fits_gives a.s a.views.now a.bytes.now a.starts.now a.lens.now a.nulls.now a.places.now c.pre.0.fit in
+    let f = fits_gives a.s a.views.now a.bytes.now a.starts.now a.lens.now a.nulls.now a.places.now c.requires.0.fit in
     let u = ap used c.make_room-t.ensures.0 ∙ room-used a.s (length a.x.now) in
     omega (arith, u, f.small, byte-limit-small)
 
@@ -90,40 +88,40 @@ lay-requires c =
 pub overflow_mul-rows : goal.overflow_mul-rows
 overflow_mul-rows c =
     let a = c.args in
-    let g = room-gives a.s a.views.now a.bytes.now a.starts.now a.lens.now a.nulls.now a.places.now c.pre.0.room in
+    let g = room-gives a.s a.views.now a.bytes.now a.starts.now a.lens.now a.nulls.now a.places.now c.requires.0.room in
     omega (arith, g.rows, row-limit-small)
 
 pub overflow_cast-block : goal.overflow_cast-block
 overflow_cast-block c =
     let a = c.args in
-    let f = fits_gives a.s a.views.now a.bytes.now a.starts.now a.lens.now a.nulls.now a.places.now c.pre.0.fit in
+    let f = fits_gives a.s a.views.now a.bytes.now a.starts.now a.lens.now a.nulls.now a.places.now c.requires.0.fit in
     let u = ap (λ (z : State). z.blocks) c.make_room-t.ensures.0 in
     omega (arith, u, room-blocks a.s (length a.x.now), f.blocks, block-limit-small)
 
 pub overflow_cast-fill : goal.overflow_cast-fill
 overflow_cast-fill c =
     let a = c.args in
-    let f = fits_gives a.s a.views.now a.bytes.now a.starts.now a.lens.now a.nulls.now a.places.now c.pre.0.fit in
+    let f = fits_gives a.s a.views.now a.bytes.now a.starts.now a.lens.now a.nulls.now a.places.now c.requires.0.fit in
     let u = ap (λ (z : State). z.fill) c.make_room-t.ensures.0 in
     omega (arith, u, room-fill a.s (length a.x.now), f.small, byte-limit-small)
 
 pub long_view-requires : goal.long_view-requires
 long_view-requires c =
     let a = c.args in
-    let g = room-gives a.s a.views.now a.bytes.now a.starts.now a.lens.now a.nulls.now a.places.now c.pre.0.room in
-    (g.views, omega (arith, c.pre.1), omega (arith, c.pre.0.small, byte-limit-small))
+    let g = room-gives a.s a.views.now a.bytes.now a.starts.now a.lens.now a.nulls.now a.places.now c.requires.0.room in
+    (g.views, omega (arith, c.requires.1), omega (arith, c.requires.0.small, byte-limit-small))
 
 pub put_bit-requires-2 : goal.put_bit-requires-2
 put_bit-requires-2 c =
     let a = c.args in
-    let g = room-gives a.s a.views.now a.bytes.now a.starts.now a.lens.now a.nulls.now a.places.now c.pre.0.room in
+    let g = room-gives a.s a.views.now a.bytes.now a.starts.now a.lens.now a.nulls.now a.places.now c.requires.0.room in
     g.bits
 
 pub stored-u-requires : goal.stored-u-requires
 stored-u-requires c =
     let a = c.args in
-    let f = fits_gives a.s a.views.now a.bytes.now a.starts.now a.lens.now a.nulls.now a.places.now c.pre.0.fit in
-    let g = room-gives a.s a.views.now a.bytes.now a.starts.now a.lens.now a.nulls.now a.places.now c.pre.0.room in
+    let f = fits_gives a.s a.views.now a.bytes.now a.starts.now a.lens.now a.nulls.now a.places.now c.requires.0.fit in
+    let g = room-gives a.s a.views.now a.bytes.now a.starts.now a.lens.now a.nulls.now a.places.now c.requires.0.room in
     let u = ap (λ (z : State). z.rows) c.make_room-t.ensures.0 in
     let v = ap (λ (z : State). z.fill) c.make_room-t.ensures.0 in (
       omega (arith, u, room-rows a.s (length a.x.now), g.rows),
@@ -132,7 +130,7 @@ stored-u-requires c =
         v,
         room-fill a.s (length a.x.now),
         f.small,
-        c.pre.0.small,
+        c.requires.0.small,
         byte-limit-small,
       ),
     )

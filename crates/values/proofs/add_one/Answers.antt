@@ -1,8 +1,7 @@
 use Rattle.builder.specs.RoomLaws.{room-gives}
-use Rattle.builder.specs.CallLaws.{does-short}
+use Rattle.builder.proofs.CallLaws.{does-short}
 use Rattle.bounds.specs.Bounds.{row-limit-small}
 use native.Mathlib.Omega.{arith}
-use borrow.Author.Rules.{rules}
 use Rattle.values.proofs.add_one.Goals as goal
 
 pub overflow_mul-rows : goal.overflow_mul-rows

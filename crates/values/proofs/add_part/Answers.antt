@@ -1,15 +1,14 @@
 use Rattle.builder.specs.RoomLaws.{room-gives}
-use Rattle.builder.specs.CallLaws.{does-short}
+use Rattle.builder.proofs.CallLaws.{does-short}
 use Rattle.bounds.specs.Bounds.{row-limit-small}
 use Rattle.views.specs.View.{short_most}
-use Rattle.column.specs.FitLaws.{and_left, and_right}
+use Rattle.column.proofs.FitLaws.{and_left, and_right}
 use borrow.Author.Tests.{leb-true}
 use lib.Dec.{leb}
 use lib.ListN.{length, take, drop, length-take}
 use Prim.Native.Nat.{◌-◌}
 use mathlib.Core.Path.{sym, ◌∙◌}
 use native.Mathlib.Omega.{arith}
-use borrow.Author.Rules.{rules}
 use Rattle.values.proofs.add_part.Goals as goal
 
 pub overflow_mul-rows : goal.overflow_mul-rows

@@ -1,5 +1,4 @@
 use Rattle.builder.specs.DoesLaws.{does-same}
-use borrow.Author.Rules.{rules}
 use Rattle.values.proofs.append_null.Goals as goal
 
 pub returns : goal.returns

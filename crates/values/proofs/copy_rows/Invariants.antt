@@ -1,13 +1,9 @@
-use Rattle.words.specs.ListLaws.{put_two}
-use Rattle.builder.specs.TimesLaws.{put_copies, copies-none, copies_length, copies-next}
+use Rattle.builder.specs.TimesLaws.{put_copies}
 use Rattle.views.specs.View.{view_at}
 use lib.ListN.{length}
 use Prim.Native.Nat.{◌+◌, ◌-◌, ◌*◌, ◌≤◌}
 use Rattle.words.specs.Words.{word_at}
-use Rattle.views.specs.ViewLaws.{length-view}
-use mathlib.Core.Path.{◌≡◌, refl, ap, ◌∙◌}
-use native.Mathlib.Omega.{arith}
-use borrow.Author.Rules.{rules}
+use mathlib.Core.Path.{◌≡◌}
 use Rattle.values.proofs.copy_rows.Given as goal
 
 abbrev pub invariant-loop-k : goal.invariant-loop-k

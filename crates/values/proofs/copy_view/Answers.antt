@@ -4,7 +4,6 @@ use lib.Seq.{take-take}
 use Rattle.views.specs.View.{view_at}
 use Rattle.words.specs.ListLaws.{put_two}
 use native.Mathlib.Omega.{arith}
-use borrow.Author.Rules.{rules}
 use Rattle.values.proofs.copy_view.Goals as goal
 
 pub returns : goal.returns

@@ -1,4 +1,3 @@
-use borrow.Author.Rules.{rules}
 use Rattle.values.proofs.does_merge.Goals as goal
 
 pub returns-in-UpTo : goal.returns-in-UpTo

@@ -1,15 +1,8 @@
 use Rattle.builder.specs.SearchLaws.{found-off, found-on, seek-end, seek-empty, seek_found, seek-on}
-use Rattle.builder.specs.Rooms.{shows_row}
-use Rattle.column.specs.Room.{bare}
-use Rattle.merging.specs.Table.{seek, search_from}
-use Rattle.hash.specs.Hash.{hash_of}
-use lib.ListN.{length}
+use Rattle.merging.specs.Table.{search_from}
 use native.Mathlib.Nat.{mod-lt}
-use Prim.Native.Nat.{◌<◌}
-use borrow.Author.Tests.{not-true, not-false}
-use mathlib.Core.Path.{◌≡◌, sym, ◌∙◌}
+use mathlib.Core.Path.{sym, ◌∙◌}
 use native.Mathlib.Omega.{arith}
-use borrow.Author.Rules.{rules}
 use Rattle.values.proofs.find.Goals as goal
 
 pub returns-then-not-does_merge : goal.returns-then-not-does_merge

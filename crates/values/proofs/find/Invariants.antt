@@ -1,15 +1,10 @@
-use Rattle.builder.specs.SearchLaws.{found-off, found-on, seek-end, seek-empty, seek_found, seek-on}
 use Rattle.builder.specs.Rooms.{shows_row}
 use Rattle.column.specs.Room.{bare}
 use Rattle.merging.specs.Table.{seek, search_from}
 use Rattle.hash.specs.Hash.{hash_of}
 use lib.ListN.{length}
-use native.Mathlib.Nat.{mod-lt}
 use Prim.Native.Nat.{◌<◌}
-use borrow.Author.Tests.{not-true, not-false}
-use mathlib.Core.Path.{◌≡◌, sym, ◌∙◌}
-use native.Mathlib.Omega.{arith}
-use borrow.Author.Rules.{rules}
+use mathlib.Core.Path.{◌≡◌}
 use Rattle.values.proofs.find.Given as goal
 
 abbrev pub invariant-loop-left : goal.invariant-loop-left

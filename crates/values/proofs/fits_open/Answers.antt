@@ -1,5 +1,4 @@
-use Rattle.builder.specs.StepLaws.{open_none, open-takes}
-use borrow.Author.Rules.{rules}
+use Rattle.builder.proofs.StepLaws.{open_none, open-takes}
 use Rattle.values.proofs.fits_open.Goals as goal
 
 pub returns-then-fill-eq0 : goal.returns-then-fill-eq0

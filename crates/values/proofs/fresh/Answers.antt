@@ -1,5 +1,4 @@
-use Rattle.builder.specs.StepLaws.{fresh-is}
-use borrow.Author.Rules.{rules}
+use Rattle.builder.proofs.StepLaws.{fresh-is}
 use Rattle.values.proofs.fresh.Goals as goal
 
 pub returns : goal.returns

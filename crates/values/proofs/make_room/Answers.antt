@@ -1,7 +1,6 @@
 use Rattle.builder.specs.State.{roomed}
-use Rattle.builder.specs.StepLaws.{pick_yes, pick_no}
+use Rattle.builder.proofs.StepLaws.{pick_yes, pick_no}
 use mathlib.Core.Path.{refl}
-use borrow.Author.Rules.{rules}
 use Rattle.values.proofs.make_room.Goals as goal
 
 pub returns-then-fits_open : goal.returns-then-fits_open
@@ -15,10 +14,9 @@ returns-then-fits_open c = (
 
 pub returns : goal.returns
 unfolding roomed
-returns c =
-    (
-      pick_no _ _ _ _ _ c.fits_open.ensures c.if-fits_open.false c.fresh.ensures,
-      pick_no _ _ _ _ _ c.fits_open.ensures c.if-fits_open.false
-          c.put_record.ensures.0,
-      pick_no _ _ _ _ _ c.fits_open.ensures c.if-fits_open.false c.put_record.ensures.1,
-    )
+returns c = (
+  pick_no _ _ _ _ _ c.fits_open.ensures c.if-fits_open.false c.fresh.ensures,
+  pick_no _ _ _ _ _ c.fits_open.ensures c.if-fits_open.false
+      c.put_record.ensures.0,
+  pick_no _ _ _ _ _ c.fits_open.ensures c.if-fits_open.false c.put_record.ensures.1,
+)

@@ -1,6 +1,5 @@
 use Rattle.builder.specs.SearchLaws.{after-wrap, after_more}
 use native.Mathlib.Omega.{arith}
-use borrow.Author.Rules.{rules}
 use Rattle.values.proofs.next_place.Goals as goal
 
 pub returns-then-p-n : goal.returns-then-p-n

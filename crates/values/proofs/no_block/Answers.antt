@@ -1,5 +1,4 @@
-use Rattle.builder.specs.StepLaws.{no_block, a_block}
-use borrow.Author.Rules.{rules}
+use Rattle.builder.proofs.StepLaws.{no_block, a_block}
 use Rattle.values.proofs.no_block.Goals as goal
 
 pub returns-then-fits_open : goal.returns-then-fits_open

@@ -5,10 +5,8 @@ use Rattle.builder.specs.RoomLaws.{null_is, null-fine, is-accepted}
 use Rattle.builder.specs.Rooms.{room_of_blocks}
 use Rattle.bounds.specs.Bounds.{row-limit-small}
 use Rattle.bounds.specs.Refusals.{is_accepted}
-use borrow.Author.Tests.{not-true, not-false}
 use mathlib.Core.Path.{refl, sym, ap, ◌∙◌}
 use native.Mathlib.Omega.{arith}
-use borrow.Author.Rules.{rules}
 use Rattle.values.proofs.null_call.Goals as goal
 
 pub why_null-w-requires : goal.why_null-w-requires

@@ -1,13 +1,12 @@
-use Rattle.builder.specs.CallLaws.{does-once}
+use Rattle.builder.proofs.CallLaws.{does-once}
 use Rattle.builder.specs.DoesLaws.{does-no}
 use Rattle.builder.specs.RoomLaws.{first-is, value-no, value_on, judged, blocks-most}
 use Rattle.builder.specs.State.{held}
 use Rattle.bounds.specs.Refusals.{is_accepted}
-use borrow.Author.Tests.{not-true, not-false}
+use borrow.Author.Tests.{not-false}
 use mathlib.Core.Path.{◌≡◌, sym, ap, ◌∙◌}
 use Prim.Native.Nat.{ℕ}
 use native.Mathlib.Omega.{arith}
-use borrow.Author.Rules.{rules}
 use Rattle.values.proofs.one_call.Goals as goal
 
 one-some : ◌≡◌ {A = ℕ} 1 0 → ⊥

@@ -2,7 +2,6 @@ use mathlib.Core.Path.{ap, ◌∙◌}
 use mathlib.Core.List.{List}
 use Prim.Native.Nat.{ℕ, ◌+◌, ◌*◌}
 use Rattle.words.specs.Words.{put_word}
-use borrow.Author.Rules.{rules}
 use Rattle.values.proofs.put_words.Goals as goal
 
 pub returns : goal.returns

@@ -1,6 +1,5 @@
 use Rattle.bounds.specs.Bounds.{row-limit-small}
 use native.Mathlib.Omega.{arith}
-use borrow.Author.Rules.{rules}
 use Rattle.values.proofs.rows_more.Goals as goal
 
 pub overflow_add-t : goal.overflow_add-t

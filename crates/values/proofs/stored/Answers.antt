@@ -1,7 +1,6 @@
 use native.Mathlib.Numerals.{add-one}
 use Rattle.bounds.specs.Bounds.{row-limit-small}
 use native.Mathlib.Omega.{arith}
-use borrow.Author.Rules.{rules}
 use Rattle.values.proofs.stored.Goals as goal
 
 pub overflow_add-t : goal.overflow_add-t

@@ -1,4 +1,4 @@
-use Rattle.builder.specs.CallLaws.{does_not, does-many, does-rows, put-none}
+use Rattle.builder.proofs.CallLaws.{does_not, does-many, does-rows, put-none}
 use Rattle.builder.specs.DoesLaws.{does-no, does-put, starts-same, lens_same}
 use Rattle.builder.specs.RoomLaws.{first-is, value-no, value_none, value_on, judged, room-many}
 use Rattle.builder.specs.State.{held}
@@ -6,7 +6,6 @@ use lib.ListN.{length}
 use Rattle.builder.specs.Rooms.{room_of_blocks}
 use Rattle.bounds.specs.Bounds.{row-limit-small}
 use Rattle.bounds.specs.Refusals.{is_accepted}
-use borrow.Author.Tests.{not-true, not-false}
 use mathlib.Core.Path.{◌≡◌, refl, sym, ap, ◌∙◌}
 use native.Mathlib.Omega.{arith}
 use borrow.Author.Rules.{rules}
@@ -90,7 +89,7 @@ copy_rows-requires c =
     let j = judged (held a.s a.views.now a.bytes.now a.starts.now a.lens.now a.nulls.now a.places.now) a.x.now
     a.n y c.if-n-eq0.false in
     let m = room-many a.s a.views.now a.bytes.now a.starts.now a.lens.now a.nulls.now a.places.now a.n j.1 in
-    let e : length c.add_one-r.new.1.0 ≡ length a.views.now = search rules in (
+    let e : length c.add_one-r.new.views ≡ length a.views.now = search rules in (
       omega arith,
       omega (
         arith,
@@ -128,7 +127,7 @@ put_run-requires c =
     let j = judged (held a.s a.views.now a.bytes.now a.starts.now a.lens.now a.nulls.now a.places.now) a.x.now
     a.n y c.if-n-eq0.false in
     let m = room-many a.s a.views.now a.bytes.now a.starts.now a.lens.now a.nulls.now a.places.now a.n j.1 in
-    let e : length c.add_one-r.new.1.1.1.1.1.0 ≡ length a.nulls.now = search rules in (
+    let e : length c.add_one-r.new.nulls ≡ length a.nulls.now = search rules in (
       omega (
         arith,
         m,

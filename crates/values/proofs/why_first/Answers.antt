@@ -1,10 +1,9 @@
-use borrow.Author.Tests.{eq-eqb, ne_eqb, not-false}
-use Rattle.builder.specs.StepLaws.{pick_yes, pick_no}
+use borrow.Author.Tests.{eq-eqb, ne_eqb}
+use Rattle.builder.proofs.StepLaws.{pick_yes, pick_no}
 use Rattle.builder.specs.RoomLaws.{fits-rows}
 use mathlib.Core.Bool.{not}
 use Rattle.bounds.specs.Refusals.{refuse-yes, refuse-no}
 use mathlib.Core.Path.{refl, sym, ap, ◌∙◌}
-use borrow.Author.Rules.{rules}
 use Rattle.values.proofs.why_first.Goals as goal
 
 pub returns-then-not-state_fits : goal.returns-then-not-state_fits

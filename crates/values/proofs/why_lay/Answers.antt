@@ -1,5 +1,4 @@
-use Rattle.builder.specs.StepLaws.{lay-no-block, lay-no-data, lay-fine}
-use borrow.Author.Rules.{rules}
+use Rattle.builder.proofs.StepLaws.{lay-no-block, lay-no-data, lay-fine}
 use Rattle.values.proofs.why_lay.Goals as goal
 
 pub returns-then-no_block : goal.returns-then-no_block

@@ -2,7 +2,6 @@ use mathlib.Core.Bool.{not}
 use Rattle.bounds.specs.Refusals.{refuse-yes, refuse-no}
 use borrow.Author.Tests.{le-leb, lt-leb}
 use mathlib.Core.Path.{refl, sym, ap, ◌∙◌}
-use borrow.Author.Rules.{rules}
 use Rattle.values.proofs.why_null.Goals as goal
 
 pub returns-then-not-state_fits : goal.returns-then-not-state_fits

@@ -1,9 +1,7 @@
 use Rattle.builder.specs.RoomLaws.{row-long, row-kind, row-over, row_on}
 use Rattle.bounds.specs.Bounds.{byte-limit-is}
-use borrow.Author.Tests.{not-true, not-false}
 use mathlib.Core.Path.{sym, ◌∙◌}
 use native.Mathlib.Omega.{arith}
-use borrow.Author.Rules.{rules}
 use Rattle.values.proofs.why_row.Goals as goal
 
 pub returns-then-x-gt-BYTE_LIMIT : goal.returns-then-x-gt-BYTE_LIMIT

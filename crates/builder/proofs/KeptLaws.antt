@@ -16,14 +16,14 @@ use Rattle.growth.specs.Growing.{fits_growth}
 use Rattle.views.specs.View.{is_short, short_most, short_view, view_at}
 use Rattle.merging.specs.Table.{is_row, row_of}
 use Rattle.column.specs.Lent.{block_room, data_room}
-use Rattle.column.specs.FitLaws.{and_left, and_right}
+use Rattle.column.proofs.FitLaws.{and_left, and_right}
 use Rattle.builder.specs.declared.State.{State}
 use Rattle.builder.specs.declared.Answer.{Answer}
 use Rattle.builder.specs.State.{Builder, held, rows_room, is_open, all_blocks, used, fits_rooms, fits_state, closed, sized, fits_open, roomed, make_room, laid, lay, rowed, add_row}
 use Rattle.builder.specs.Values.{found, why_lay, why_store, enter, store, put_found, put_value}
 use Rattle.builder.specs.Rooms.{room_of_rows, room_of_blocks, room_of_bytes}
 use Rattle.builder.specs.RoomLaws.{rows-room-is, blocks-room-is, bytes-room-is, fits-is}
-use Rattle.builder.specs.PutLaws.{lay-room, room-rows}
+use Rattle.builder.proofs.PutLaws.{lay-room, room-rows}
 use Rattle.builder.specs.Does.{Does, left}
 
 -- the four tests, as facts

@@ -27,7 +27,7 @@ use Rattle.column.specs.Lent.{Lent, lent, buffers, block, table_of, in_data, blo
 use Rattle.column.specs.Room.{bare}
 use Rattle.column.specs.Meaning.{blocks_of, shown, shown_at}
 use Rattle.column.specs.Truth.{reach_of, reachable}
-use Rattle.column.specs.FitLaws.{and_left}
+use Rattle.column.proofs.FitLaws.{and_left}
 use Rattle.builder.specs.declared.Merging.{Merging}
 use Rattle.builder.specs.declared.State.{State}
 use Rattle.builder.specs.State.{Builder, builder, held, is_open, all_blocks, used, fits_state, recorded, closed, sized, fits_open, roomed, make_room, laid, lay, rowed, add_row}

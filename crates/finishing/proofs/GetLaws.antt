@@ -19,8 +19,8 @@ use Rattle.column.specs.Room.{bare}
 use Rattle.column.specs.Meaning.{blocks_of, shown, shown_at}
 use Rattle.column.specs.Truth.{reach_of, reach_by, is_inside, reachable}
 use Rattle.column.specs.Spot.{spot_of, spot_in, bytes_at, points_to, further, Lies, Names}
-use Rattle.column.specs.FitLaws.{table_at}
-use Rattle.column.specs.SpotLaws.{spot_is, found-lies, found-reach, spot-shown}
+use Rattle.column.proofs.FitLaws.{table_at}
+use Rattle.column.proofs.SpotLaws.{spot_is, found-lies, found-reach, spot-shown}
 use Rattle.builder.specs.declared.State.{State}
 use Rattle.builder.specs.State.{Builder, held, all_blocks, fits_state, recorded}
 use Rattle.builder.specs.Rooms.{open_starts, open_lens, Ready}

@@ -19,7 +19,7 @@ use Rattle.builder.specs.State.{Builder, held, all_blocks, used, fits_state, fit
 use Rattle.builder.specs.Values.{found_by, found, why_lay, why_store, why_values, enter, store, put_found, put_value, put_values}
 use Rattle.builder.specs.Rooms.{room_of_blocks, room_of_bytes, open_starts, open_lens, shows_row}
 use Rattle.builder.specs.RoomLaws.{blocks-room-is, bytes-room-is, is-accepted}
-use Rattle.builder.specs.PutLaws.{found-is, store-short, put-short, store-row, store-lay, put-row, put-lay, stored, room-rows, room-starts, room-lens}
+use Rattle.builder.proofs.PutLaws.{found-is, store-short, put-short, store-row, store-lay, put-row, put-lay, stored, room-rows, room-starts, room-lens}
 use Rattle.builder.specs.Does.{Does, answer, starts_of, lens_of}
 use Rattle.builder.specs.DoesLaws.{starts-same, lens_same, does-put, does-left}
 use Rattle.builder.specs.declared.Answer.{Answer}

@@ -1,0 +1,4 @@
+pub mod StepLaws
+pub mod PutLaws
+pub mod CallLaws
+pub mod KeptLaws

@@ -21,7 +21,7 @@ use Rattle.showing.specs.Stores.{blocks_at_lem, block-length, get_d_rows}
 use Rattle.showing.specs.Rooms.{rooms}
 use Rattle.compaction.specs.Cut.{is_none}
 use Rattle.compaction.specs.Compact.{long_of, row_shown, view_by, new_lens, new_view, why_compact, compacted, compact_column}
-use Rattle.compaction.specs.LaidLaws.{view-short}
+use Rattle.compaction.proofs.LaidLaws.{view-short}
 use Rattle.compaction.specs.Bounded.{points, pointing, Bounded}
 use Rattle.compaction.proofs.Kept.{Fill, filled, close, lay, room_of, fills, blocks_out, Small, small-fills, fits-lay, view-placed}
 use Rattle.compaction.proofs.Compacted.{Room, room, new_blocks, old_row, bytes_small, views-back, blocks-back, compact-shows}

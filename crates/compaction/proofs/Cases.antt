@@ -9,7 +9,7 @@ use borrow.Author.Tests.{le-leb}
 use Rattle.views.specs.View.{length_of}
 use Rattle.compaction.specs.Cut.{Cut, cut, is_none, room_for, cut_from, cut_all, cut_lens}
 use Rattle.compaction.specs.Compact.{long_of, view_by}
-use Rattle.compaction.specs.LaidLaws.{view-short}
+use Rattle.compaction.proofs.LaidLaws.{view-short}
 use Rattle.compaction.proofs.Kept.{none-short}
 use Rattle.laying.specs.Written.{total}
 

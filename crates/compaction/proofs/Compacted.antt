@@ -14,7 +14,7 @@ use Rattle.bounds.specs.declared.Refusal.TheVariants.{Setting, Fit, RowRoom, Blo
 use Rattle.bounds.specs.declared.Why.TheVariants.{Accepted}
 use Rattle.null_bits.specs.Bits as bits
 use Rattle.null_bits.specs.Runs.{put_bits}
-use Rattle.null_bits.specs.RunLaws.{length-bits}
+use Rattle.null_bits.proofs.RunLaws.{length-bits}
 use Rattle.views.specs.View.{view_size, view_at, length_of}
 use Rattle.column.specs.declared.Column.{Column}
 use Rattle.column.specs.Lent.{Lent, block, block_at, fits, row_room, block_room, data_room}
@@ -22,13 +22,15 @@ use Rattle.column.specs.Meaning.{row_view, blocks_of, shown, shown_at, row_valid
 use Rattle.column.specs.Truth.{reachable, honest, of_kind, is_true, true_at}
 use Rattle.column.specs.Laid.{rows_of, views_of, bits_of, flat}
 use Rattle.showing.specs.Row.{Row}
-use Rattle.showing.specs.Rows.{Rows, rows_at}
+use Rattle.showing.specs.Rows.{Rows}
+use Rattle.showing.proofs.RowsLaws.{rows_at}
 use Rattle.showing.specs.Stores.{length-rows, get_d_rows, rows_same, rows-list}
 use Rattle.showing.specs.Rooms.{rooms, row-room-same, block-room-same, data-room-same, fitted, passed, all-passed, both}
 use Rattle.showing.specs.Truths.{AllIn, row-true, true-row}
 use Rattle.showing.specs.LaidLaws.{bits-anew}
-use Rattle.showing.specs.Shows.{Shows, view-size, shows-rows, shows-row}
-use Rattle.compaction.specs.LaidLaws.{flat-total, lens-total}
+use Rattle.showing.specs.Shows.{Shows}
+use Rattle.showing.proofs.ShowsLaws.{view-size, shows-rows, shows-row}
+use Rattle.compaction.proofs.LaidLaws.{flat-total, lens-total}
 use Rattle.compaction.specs.Compact.{long_lens, row_shown, new_lens, new_bytes, new_view, why_compact, compacted, compact_column}
 use Rattle.compaction.proofs.Kept.{blocks_out, lens-out, flat_out, rows_out}
 use Rattle.laying.specs.Rooms.{why_rooms}

@@ -13,12 +13,13 @@ use Rattle.basis.specs.Pick.{pick}
 use Rattle.views.specs.View.{short_most, is_short, length_of, long_view}
 use Rattle.column.specs.Laid.{rows_of, flat}
 use Rattle.showing.specs.Row.{Row, Fits, placed}
-use Rattle.showing.specs.Rows.{ext-add, ext-last, row_any, Rows, rnil, rows_ext, rows_snoc}
-use Rattle.showing.specs.Shows.{rows-by}
+use Rattle.showing.specs.Rows.{Rows, rnil}
+use Rattle.showing.proofs.RowsLaws.{ext-add, ext-last, row_any, rows_ext, rows_snoc}
+use Rattle.showing.proofs.ShowsLaws.{rows-by}
 use Rattle.compaction.specs.Cut.{Cut, cut, shut, add, room_for, cut_all, cut_from, cut_lens, is_none}
 use Rattle.compaction.specs.Compact.{long_of, view_by}
-use Rattle.compaction.specs.CutLaws.{cut-snoc}
-use Rattle.compaction.specs.LaidLaws.{view-short, view-long}
+use Rattle.compaction.proofs.CutLaws.{cut-snoc}
+use Rattle.compaction.proofs.LaidLaws.{view-short, view-long}
 use Rattle.laying.specs.WrittenLaws.{flat-snoc}
 
 -- the blocks closed and the current one, as bytes

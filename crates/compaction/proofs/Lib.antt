@@ -1,3 +1,7 @@
+pub mod CutLaws
+pub mod LaidLaws
+pub mod PassLaws
+pub mod CallLaws
 pub mod Kept
 pub mod Compacted
 pub mod Bound

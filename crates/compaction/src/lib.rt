@@ -106,9 +106,9 @@ fn measure<'a>(
 // Writes the record of the current block where a value of `n` bytes closes it; answers where the value goes.
 fn close(newstarts: &mut [usize], newlens: &mut [usize], s: Stand, n: usize, most: usize) -> Stand
     requires { Small n s × (s.closed < length newstarts.old) × (s.closed < length newlens.old) }
-    ensures value { result ≡ room_stand most n s }
-    ensures newstarts_after { newstarts.new ≡ closed_at most n s s.base newstarts.old }
-    ensures newlens_after { newlens.new ≡ closed_at most n s s.fill newlens.old }
+    ensures next { result ≡ room_stand most n s }
+    ensures starts { newstarts.new ≡ closed_at most n s s.base newstarts.old }
+    ensures lens { newlens.new ≡ closed_at most n s s.fill newlens.old }
 {
     let closed = s.closed;
     let base = s.base;
@@ -128,8 +128,8 @@ fn close(newstarts: &mut [usize], newlens: &mut [usize], s: Stand, n: usize, mos
 // Copies a long value to its place, and writes the view of its row.
 fn put_value(newviews: &mut [u8], newbytes: &mut [u8], row: usize, value: &[u8], s: Stand)
     requires { PlaceIn newviews.old newbytes.old row value.now s }
-    ensures newviews_after { newviews.new ≡ paste newviews.old (view_size * row) (long_view value.now s.closed s.fill) view_size }
-    ensures newbytes_after { newbytes.new ≡ paste newbytes.old (s.base + s.fill) value.now (length value.now) }
+    ensures views { newviews.new ≡ paste newviews.old (view_size * row) (long_view value.now s.closed s.fill) view_size }
+    ensures bytes { newbytes.new ≡ paste newbytes.old (s.base + s.fill) value.now (length value.now) }
 {
     let closed = s.closed;
     let base = s.base;
@@ -209,9 +209,9 @@ fn put_row<'a>(
     s: Stand,
     most: usize,
 ) -> Stand
-    requires in_room { InRoom views.now starts.now lens.now blocks at × (reachable (bare views.now bytes.now starts.now lens.now) blocks
+    requires source { InRoom views.now starts.now lens.now blocks at × (reachable (bare views.now bytes.now starts.now lens.now) blocks
         (view_at views.now at) ≡ true) }
-    requires row_in { RowIn (length_of (view_at views.now at)) newviews.old newbytes.old row s }
+    requires room { RowIn (length_of (view_at views.now at)) newviews.old newbytes.old row s }
     ensures { RowPut most row (view_at views.now at)
         (shown (blocks_of (bare views.now bytes.now starts.now lens.now) blocks)
         (view_at views.now at)) s newviews.old newbytes.old result newviews.new newbytes.new }
@@ -240,8 +240,8 @@ fn write<'a>(
     newviews: &mut [u8],
     newbytes: &mut [u8],
 )
-    requires source_fits { SourceFits views.now starts.now lens.now c }
-    requires write_in { WriteIn most (bare views.now bytes.now starts.now lens.now) c newviews.old newbytes.old }
+    requires source { SourceFits views.now starts.now lens.now c }
+    requires room { WriteIn most (bare views.now bytes.now starts.now lens.now) c newviews.old newbytes.old }
     ensures { Filled most (bare views.now bytes.now starts.now lens.now) c newviews.old
         newbytes.old newviews.new newbytes.new }
 {
@@ -341,9 +341,9 @@ fn put_table(
     newstarts: &mut [usize],
     newlens: &mut [usize],
 )
-    requires rows_in_bounds { (view_size * (first + rows) ≤ length views.now) × (first + rows ≤ row_limit)
+    requires source { (view_size * (first + rows) ≤ length views.now) × (first + rows ≤ row_limit)
         × (TableIn (stand_at most (λ r. view_at views.now (first + r)) rows) newstarts.old newlens.old) }
-    requires cut_counted { CutCounted most (λ r. view_at views.now (first + r)) rows blocks total }
+    requires counted { CutCounted most (λ r. view_at views.now (first + r)) rows blocks total }
     ensures { CutListed most (λ r. view_at views.now (first + r)) rows newstarts.old newlens.old
         newstarts.new newlens.new }
 {

@@ -1,4 +1,3 @@
 pub mod PlanLaws
 pub mod TurnLaws
-pub mod Again
 pub mod Only

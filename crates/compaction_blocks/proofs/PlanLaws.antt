@@ -18,11 +18,11 @@ use Rattle.column.specs.declared.Block.{Block}
 use Rattle.column.specs.declared.Column.{Column}
 use Rattle.column.specs.declared.Spot.{Spot}
 use Rattle.column.specs.Lent.{Lent, buffers, block, lent, table_of, map_room, row_room, block_room, data_room, fits, in_data}
-use Rattle.column.specs.FitLaws.{fits_gives, map-bytes}
+use Rattle.column.proofs.FitLaws.{fits_gives, map-bytes}
 use Rattle.column.specs.Meaning.{row_view, blocks_of}
 use Rattle.column.specs.Room.{bare}
 use Rattle.column.specs.Spot.{spot_of, bytes_at}
-use Rattle.column.specs.SpotLaws.{spot-length}
+use Rattle.column.proofs.SpotLaws.{spot-length}
 use Rattle.column.specs.Truth.{reach_by, is_inside, reach_of, reachable, is_true, true_at}
 use Rattle.laying.specs.RoomLaws.{taken}
 use Rattle.laying.specs.Rooms.{why_rooms}
@@ -35,7 +35,7 @@ use Rattle.compaction.specs.declared.Outcome.{Outcome}
 use Rattle.compaction.specs.declared.Stand.{Stand}
 use Rattle.compaction.specs.Compact.{long_lens, new_lens, why_compact, compacted, compact_of}
 use Rattle.compaction.specs.Steps.{stand_at, Small, Measured, Judges, blocks_by, map_by}
-use Rattle.compaction.specs.CallLaws.{compact-setting, compact-fit, compact-row, compact-rooms, blocks_is, source, write-in, room-table, map-in, wrote, wrote-not}
+use Rattle.compaction.proofs.CallLaws.{compact-setting, compact-fit, compact-row, compact-rooms, blocks_is, source, write-in, room-table, map-in, wrote, wrote-not}
 use Rattle.compaction_blocks.specs.declared.Pass.{Pass}
 use Rattle.compaction_blocks.specs.declared.Plan.{Plan}
 use Rattle.compaction_blocks.specs.declared.Sizes.{Sizes}

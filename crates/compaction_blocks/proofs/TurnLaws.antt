@@ -18,13 +18,13 @@ use Rattle.column.specs.declared.Column.{Column}
 use Rattle.column.specs.Lent.{Lent, block, table_of}
 use Rattle.column.specs.Meaning.{row_view}
 use Rattle.column.specs.Spot.{Names}
-use Rattle.column.specs.SpotLaws.{spot_is, spot-reaches, spot-shown}
+use Rattle.column.proofs.SpotLaws.{spot_is, spot-reaches, spot-shown}
 use Rattle.compaction.specs.declared.Stand.{Stand}
 use Rattle.compaction.specs.Compact.{row_shown}
 use Rattle.compaction.specs.Steps.{row_step, closed_at, recorded_at, RowPut, TablePut, Laid, CutTabled, Filled, CutListed}
-use Rattle.compaction.specs.CutLaws.{stand-row}
-use Rattle.compaction.specs.LaidLaws.{laid_none, laid_next, tabled-none, tabled_step}
-use Rattle.compaction.specs.PassLaws.{row-there, row-reach, row_sized, row_in, filled, table-in, few-at, listed-none, listed-some}
+use Rattle.compaction.proofs.CutLaws.{stand-row}
+use Rattle.compaction.proofs.LaidLaws.{laid_none, laid_next, tabled-none, tabled_step}
+use Rattle.compaction.proofs.PassLaws.{row-there, row-reach, row_sized, row_in, filled, table-in, few-at, listed-none, listed-some}
 use Rattle.compaction_blocks.specs.declared.Pass.{Pass}
 use Rattle.compaction_blocks.specs.Turns.{starts_in, lens_in, source_of, reached_by, value_by, record_place, last_place, TurnIn, More, Last, Turned, Starts, Written, Same, Writes}
 
@@ -252,15 +252,15 @@ module _ (most : ℕ) (views bytes : List ℕ) (table : List Block) (c : Column)
 
   -- ---- from turn to turn
 
-  module _ (first : Pass) (given : 0 < first.left → Starts most views bytes table c vs₀ bs₀ t₀ first) where
-    pub record Going (p : Pass) (vs bs : List ℕ) (t : List Block) : Type 0 where
-      pub in-views : length vs ≡ length vs₀
-      pub in_bytes : length bs ≡ length bs₀
-      pub in_table : length t ≡ length t₀
-      pub none : first.left ≡ 0 → (p.left ≡ 0) × Same vs₀ bs₀ t₀ vs bs t
-      pub some : 0 < first.left → Through p vs bs t
+  pub record Going (first p : Pass) (vs bs : List ℕ) (t : List Block) : Type 0 where
+    pub in-views : length vs ≡ length vs₀
+    pub in_bytes : length bs ≡ length bs₀
+    pub in_table : length t ≡ length t₀
+    pub none : first.left ≡ 0 → (p.left ≡ 0) × Same vs₀ bs₀ t₀ vs bs t
+    pub some : 0 < first.left → Through p vs bs t
 
-    pub going-first : Going first vs₀ bs₀ t₀
+  module _ (first : Pass) (given : 0 < first.left → Starts most views bytes table c vs₀ bs₀ t₀ first) where
+    pub going-first : Going first first vs₀ bs₀ t₀
     going-first =
         record {
           in-views = refl;
@@ -270,7 +270,7 @@ module _ (most : ℕ) (views bytes : List ℕ) (table : List Block) (c : Column)
           some = λ h. through-first first (given h);
         }
 
-    module _ (p : Pass) (vs bs : List ℕ) (t : List Block) (going : Going p vs bs t) where
+    module _ (p : Pass) (vs bs : List ℕ) (t : List Block) (going : Going first p vs bs t) where
       pub going-last : p.left ≡ 0 → Writes most views bytes table c first vs₀ bs₀ t₀ vs bs t
       going-last z = record { none = λ e. (going.none e).1; some = λ h. (going.some h).over z }
 
@@ -291,7 +291,7 @@ module _ (most : ℕ) (views bytes : List ℕ) (table : List Block) (c : Column)
           pub going-fewer : r.left < p.left
           going-fewer = fewer first (given begins) p vs bs t k b here some asks reads r vs' bs' t' turned going.in_table put
 
-          pub going_next : length vs' ≡ length vs → length bs' ≡ length bs → length t' ≡ length t → Going r vs' bs' t'
+          pub going_next : length vs' ≡ length vs → length bs' ≡ length bs → length t' ≡ length t → Going first r vs' bs' t'
           going_next lv lb lt =
               record {
                 in-views = lv ∙ going.in-views;

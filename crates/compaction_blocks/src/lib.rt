@@ -1,5 +1,5 @@
 // Compaction over block tables that are lent as slices of records: the source's is read, the new column's is written through.
-// A function that has a table is proved by hand, so each is thin: a function over one record by value does the work of a row and answers what is to be written.
+// A function that has a table is thin: a function over one record by value does the work of a row and answers what is to be written.
 #![tactic(auto)]
 
 ghost use Rattle.std.specs.Prelude.{◌≡◌, true, List, ℕ, ◌+◌, ◌*◌, ◌^◌, ◌<◌, ◌≤◌, leb, length};
@@ -253,8 +253,8 @@ fn put_row<'a>(
     s: Stand,
     most: usize,
 ) -> Stand
-    requires view_size_in_bounds { (view_size * at + view_size ≤ length views.now) × (reached_by views.now bytes.now blocks at b ≡ true) }
-    requires row_in { RowIn (length_of (view_at views.now at)) newviews.old newbytes.old row s }
+    requires source { (view_size * at + view_size ≤ length views.now) × (reached_by views.now bytes.now blocks at b ≡ true) }
+    requires room { RowIn (length_of (view_at views.now at)) newviews.old newbytes.old row s }
     ensures { RowPut most row (view_at views.now at) (value_by views.now bytes.now blocks at b) s
         newviews.old newbytes.old result newviews.new newbytes.new }
 {

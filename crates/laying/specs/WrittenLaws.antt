@@ -1,14 +1,14 @@
 -- What is written from the front of buffers is read back: views, blocks, and the table as two number slices. Assumes nothing.
 use Rattle.std.specs.Prelude.{◌≡◌, List, [], ◌∷◌, ◌++◌, map, length, set, take, drop, get_or}
 use Rattle.std.proofs.Math.Path.{refl}
-use Rattle.std.proofs.Common.{sym, ap, ◌∙◌, append-nil, append_assoc, not-suc-le-zero, add-zero, zero-add, add_assoc, add-one, arith, length-append, length-drop, take_at, drop-drop, drop-cons}
+use Rattle.std.proofs.Common.{sym, ap, subst, ◌∙◌, append-nil, append_assoc, not-suc-le-zero, add-zero, zero-add, add_assoc, add-one, arith, length-append, length-drop, take_at, drop-drop, drop-cons}
 use Prim.Native.Nat.{ℕ, zero, suc, ◌+◌, ◌*◌, ◌≤◌, ◌<◌}
 use Rattle.std.proofs.lemmas.List.{length-map}
 use Rattle.std.proofs.Math.Seq.{paste, length-paste, take-append_seam, drop-append_seam, take-length, drop-append-add, set-append_seam, append_snoc}
 use Rattle.views.specs.View.{view_size, view_at}
 use Rattle.column.specs.declared.Block.{Block}
 use Rattle.column.specs.Lent.{buffers, block, table_of}
-use Rattle.column.specs.FitLaws.{length-table}
+use Rattle.column.proofs.FitLaws.{length-table}
 use Rattle.column.specs.Meaning.{bytes_of, blocks_of}
 use Rattle.column.specs.Laid.{rows_of, flat}
 use Rattle.showing.specs.Stores.{views-paste}
@@ -98,7 +98,9 @@ records-read pre rest (x ∷ xs) =
     let n : length pre + length x ≡ length (pre ++ x) = sym (length-append pre x) in
     let here : take (length x) (drop (length pre) (pre ++ ((x ++ flat xs) ++ rest))) ≡ x =
     rw (drop-append_seam pre ((x ++ flat xs) ++ rest), append_assoc x (flat xs) rest) (take-append_seam x (flat xs ++ rest)) in
-    rw (here, e, n, records-read (pre ++ x) rest xs)
+    let later : map (bytes_of (pre ++ ((x ++ flat xs) ++ rest))) (records (length pre + length x) (map length xs)) ≡ xs =
+    subst (λ (l : List ℕ). map (bytes_of l) (records (length pre + length x) (map length xs)) ≡ xs) (sym e) (rw n (records-read (pre ++ x) rest xs)) in
+    rw here (ap (λ (t : List (List ℕ)). x ∷ t) later)
 
 pub blocks-read : (d : List ℕ) (t : List Block) (xs : List (List ℕ)) (vs ms : List ℕ)
     → blocks_of (buffers vs (front d (flat xs)) (front t (records 0 (map length xs))) ms) (length xs) ≡ xs

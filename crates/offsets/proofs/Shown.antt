@@ -16,7 +16,7 @@ use Rattle.bounds.specs.declared.Why.TheVariants.{Accepted}
 use Rattle.utf8.specs.Table.{well_formed, first_bad, bad_after}
 use Rattle.null_bits.specs.Bits as bits
 use Rattle.null_bits.specs.Runs.{put_bits}
-use Rattle.null_bits.specs.RunLaws.{length-bits}
+use Rattle.null_bits.proofs.RunLaws.{length-bits}
 use Rattle.views.specs.View.{short_most, is_short, view_at, make_view, zero_view}
 use Rattle.views.specs.ViewLaws.{make-short, make-long, zero-view}
 use Rattle.column.specs.declared.Kind.{Kind}
@@ -24,14 +24,15 @@ use Rattle.column.specs.declared.Kind.TheVariants.{Binary, Text}
 use Rattle.column.specs.Lent.{Lent, block, block_at, fits, in_data, all_in_data, row_room, data_room}
 use Rattle.column.specs.Meaning.{blocks_of, shown_at, row_valid}
 use Rattle.column.specs.Truth.{of_kind, true_at}
-use Rattle.column.specs.LowestLaws.{lowest-none}
+use Rattle.column.proofs.LowestLaws.{lowest-none}
 use Rattle.column.specs.Laid.{rows_of, views_of, bits_of}
 use Rattle.showing.specs.Row.{Row, short_row, long-row}
 use Rattle.showing.specs.Stores.{rows_same, get_d_rows}
 use Rattle.showing.specs.Rooms.{rooms, row-room-same, block-room-same, data-room-same, fitted}
 use Rattle.showing.specs.Truths.{AllIn, row-true}
 use Rattle.showing.specs.LaidLaws.{bits-anew}
-use Rattle.showing.specs.Shows.{Shows, rows-by, shows-row, shows-value, shows-bit}
+use Rattle.showing.specs.Shows.{Shows}
+use Rattle.showing.proofs.ShowsLaws.{rows-by, shows-row, shows-value, shows-bit}
 use Rattle.laying.specs.Written.{put_rows}
 use Rattle.laying.specs.WrittenLaws.{length_front, length-put-rows, views-read}
 use Rattle.validity.specs.Check.{why_invalid}

@@ -13,7 +13,7 @@ use Rattle.null_bits.specs.Runs.{copy_column}
 use Rattle.column.specs.declared.Kind.{Kind}
 use Rattle.column.specs.declared.Column.{Column}
 use Rattle.column.specs.Lent.{Lent, lent, row_room, block_room, data_room}
-use Rattle.column.specs.FitLaws.{length-table}
+use Rattle.column.proofs.FitLaws.{length-table}
 use Rattle.showing.specs.Rooms.{rooms}
 use Rattle.laying.specs.Written.{front, put_rows}
 use Rattle.laying.specs.WrittenLaws.{front-one}

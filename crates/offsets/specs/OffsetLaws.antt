@@ -17,7 +17,7 @@ use Rattle.bounds.specs.declared.Why.{Why}
 use Rattle.bounds.specs.declared.Why.TheVariants.{Refused}
 use Rattle.null_bits.specs.Bits.{valid_at, null_of, count_nulls}
 use Rattle.null_bits.specs.Runs.{put_bits, copy_column}
-use Rattle.null_bits.specs.RunLaws.{bits-same}
+use Rattle.null_bits.proofs.RunLaws.{bits-same}
 use Rattle.column.specs.declared.Kind.{Kind}
 use Rattle.offsets.specs.Offsets.{Source, width_of, half, offset_at, offset_count, lawful_at, lawful, cuts, any_null, kind_at, why_kinds}
 use Rattle.offsets.specs.Steps.{rising, CutIn}

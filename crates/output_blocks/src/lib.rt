@@ -1,5 +1,5 @@
 // The offset column over a block table that is lent as a slice of records, which the caller can write through.
-// A function that has the table is proved by hand, so it is thin: a function over the count of the records does the work and answers what is to be written.
+// A function that has the table is thin: a function over the count of the records does the work and answers what is to be written.
 #![tactic(auto)]
 
 ghost use Rattle.std.specs.Prelude.{◌≡◌, List, ◌≤◌, eqb, length, set, take};

@@ -1,5 +1,4 @@
-use Rattle.compaction.specs.CallLaws.{by-none, by-some}
-use borrow.Author.Rules.{rules}
+use Rattle.compaction.proofs.CallLaws.{by-none, by-some}
 use Rattle.compaction.proofs.blocks_of.Goals as goal
 
 pub returns-then-base-fill-eq0 : goal.returns-then-base-fill-eq0

@@ -1,7 +1,5 @@
 use mathlib.Core.Path.{sym, ◌∙◌}
-use borrow.Author.Tests.{not-true, not-false}
-use Rattle.compaction.specs.CallLaws.{wrote-not, wrote, accepted, source, write-in, room-table, map-in, counted}
-use borrow.Author.Rules.{rules}
+use Rattle.compaction.proofs.CallLaws.{wrote-not, wrote, accepted, source, write-in, room-table, map-in, counted}
 use Rattle.compaction.proofs.compact.Goals as goal
 
 pub returns-then-not-is_accepted : goal.returns-then-not-is_accepted
@@ -17,13 +15,13 @@ write-requires c =
     let g = c.judge-j.ensures in
     let h = accepted a.most a.views.now a.bytes.now a.starts.now a.lens.now a.nulls.now a.c a.newviews.now
     a.newbytes.now a.newstarts.now a.newlens.now a.newnulls.now _ g (sym c.is_accepted.ensures
-    ∙ c.if-not-is_accepted.false) in (
-      source a.most a.views.now a.bytes.now a.starts.now a.lens.now a.nulls.now a.c a.newviews.now
-          a.newbytes.now a.newstarts.now a.newlens.now a.newnulls.now h,
-      write-in a.most a.views.now a.bytes.now
+    ∙ c.if-not-is_accepted.false) in record {
+      source = source a.most a.views.now a.bytes.now a.starts.now a.lens.now a.nulls.now a.c a.newviews.now
+          a.newbytes.now a.newstarts.now a.newlens.now a.newnulls.now h;
+      room = write-in a.most a.views.now a.bytes.now
           a.starts.now a.lens.now a.nulls.now a.c a.newviews.now a.newbytes.now a.newstarts.now a.newlens.now
-          a.newnulls.now h,
-    )
+          a.newnulls.now h;
+    }
 
 pub put_table-requires : goal.put_table-requires
 put_table-requires c =
@@ -32,17 +30,17 @@ put_table-requires c =
     let h = accepted a.most a.views.now a.bytes.now a.starts.now a.lens.now a.nulls.now a.c a.newviews.now
     a.newbytes.now a.newstarts.now a.newlens.now a.newnulls.now _ g (sym c.is_accepted.ensures ∙ c.if-not-is_accepted.false) in
     let s = source a.most a.views.now a.bytes.now a.starts.now a.lens.now a.nulls.now a.c a.newviews.now
-    a.newbytes.now a.newstarts.now a.newlens.now a.newnulls.now h in (
-      (
+    a.newbytes.now a.newstarts.now a.newlens.now a.newnulls.now h in record {
+      source = (
         s.views,
         s.rows,
         room-table a.most a.views.now a.bytes.now a.starts.now a.lens.now a.nulls.now a.c
             a.newviews.now a.newbytes.now a.newstarts.now a.newlens.now a.newnulls.now h,
-      ),
-      counted a.most a.views.now
+      );
+      counted = counted a.most a.views.now
           a.bytes.now a.starts.now a.lens.now a.nulls.now a.c a.newviews.now a.newbytes.now a.newstarts.now
-          a.newlens.now a.newnulls.now _ g (sym c.is_accepted.ensures ∙ c.if-not-is_accepted.false),
-    )
+          a.newlens.now a.newnulls.now _ g (sym c.is_accepted.ensures ∙ c.if-not-is_accepted.false);
+    }
 
 pub put_map-requires : goal.put_map-requires
 put_map-requires c =

@@ -1,18 +1,12 @@
-use Rattle.compaction.specs.CutLaws.{stand-next, next_grows}
 use Rattle.compaction.specs.Steps.{stand_of}
 use Rattle.compaction.specs.Compact.{long_of}
 use Rattle.compaction.specs.Cut.{cut_all}
 use Rattle.views.specs.View.{view_at, length_of}
-use Rattle.column.specs.Truth.{is_true, true_at}
+use Rattle.column.specs.Truth.{is_true}
 use Rattle.column.specs.Room.{bare}
-use Rattle.bounds.specs.Bounds.{row-limit-small}
-use borrow.Author.Tests.{not-true, not-false}
-use borrow.Author.Count.{below_more}
 use mathlib.Core.Bool.{true}
-use mathlib.Core.Path.{◌≡◌, sym, ◌∙◌}
+use mathlib.Core.Path.{◌≡◌}
 use Prim.Native.Nat.{ℕ, ◌+◌, ◌-◌, ◌*◌, ◌≤◌, ◌<◌}
-use Rattle.compaction.specs.CutLaws.{stand-none}
-use native.Mathlib.Omega.{arith}
 use Rattle.compaction.proofs.measure.Given as goal
 
 abbrev pub invariant-loop-k : goal.invariant-loop-k

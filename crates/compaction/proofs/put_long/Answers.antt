@@ -1,6 +1,5 @@
-use Rattle.compaction.specs.CutLaws.{room-kept, long-put}
+use Rattle.compaction.proofs.CutLaws.{room-kept, long-put}
 use native.Mathlib.Omega.{arith}
-use borrow.Author.Rules.{rules}
 use Rattle.compaction.proofs.put_long.Goals as goal
 
 pub put_value-requires : goal.put_value-requires
@@ -16,4 +15,4 @@ grown-requires c =
 pub returns : goal.returns
 returns c =
     let p = c.put_value.ensures in
-    long-put _ _ _ _ _ _ _ _ _ _ c.room_for-t.ensures c.grown.ensures p.0 p.1
+    long-put _ _ _ _ _ _ _ _ _ _ c.room_for-t.ensures c.grown.ensures p.views p.bytes

@@ -1,7 +1,6 @@
 use mathlib.Core.Path.{◌∙◌}
-use Rattle.compaction.specs.CallLaws.{map-yes, map-no}
+use Rattle.compaction.proofs.CallLaws.{map-yes, map-no}
 use native.Mathlib.Omega.{arith}
-use borrow.Author.Rules.{rules}
 use Rattle.compaction.proofs.put_map.Goals as goal
 
 pub copy_column-requires : goal.copy_column-requires

@@ -1,6 +1,5 @@
-use Rattle.compaction.specs.CutLaws.{room-kept, table-short, table-long}
+use Rattle.compaction.proofs.CutLaws.{room-kept, table-short, table-long}
 use native.Mathlib.Omega.{arith}
-use borrow.Author.Rules.{rules}
 use Rattle.compaction.proofs.put_record.Goals as goal
 
 pub returns-then-n-le-SHORT_MOST : goal.returns-then-n-le-SHORT_MOST
@@ -11,8 +10,8 @@ close-t-requires c = let p = c.requires in let h = p.1 (omega arith) in (p.0, h.
 
 pub grown-requires : goal.grown-requires
 grown-requires c =
-    let g = room-kept _ _ _ _ c.close-t.ensures.0 in let p = c.requires.0 in omega arith
+    let g = room-kept _ _ _ _ c.close-t.ensures.next in let p = c.requires.0 in omega arith
 
 pub returns : goal.returns
-returns c = let g = c.close-t.ensures in table-long _ _ _ _ _ _ _ _ _ (omega arith) g.0
-    c.grown.ensures g.1.0 g.1.1
+returns c = let g = c.close-t.ensures in table-long _ _ _ _ _ _ _ _ _ (omega arith) g.next
+    c.grown.ensures g.starts g.lens

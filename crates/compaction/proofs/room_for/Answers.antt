@@ -1,6 +1,5 @@
-use Rattle.compaction.specs.CutLaws.{room_in_lem, room-over}
+use Rattle.compaction.proofs.CutLaws.{room_in_lem, room-over}
 use native.Mathlib.Omega.{arith}
-use borrow.Author.Rules.{rules}
 use Rattle.compaction.proofs.room_for.Goals as goal
 
 pub returns-then-fill-n : goal.returns-then-fill-n

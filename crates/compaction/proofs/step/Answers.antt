@@ -1,6 +1,5 @@
-use Rattle.compaction.specs.CutLaws.{step-short, step_in, step-over}
+use Rattle.compaction.proofs.CutLaws.{step-short, step_in, step-over}
 use native.Mathlib.Omega.{arith}
-use borrow.Author.Rules.{rules}
 use Rattle.compaction.proofs.step.Goals as goal
 
 pub returns-then-n-le-SHORT_MOST : goal.returns-then-n-le-SHORT_MOST

@@ -1,17 +1,13 @@
-use Rattle.compaction.specs.PassLaws.{row-there, row-reach, row_sized, row_in, filled}
-use Rattle.compaction.specs.LaidLaws.{laid_none, laid_next}
-use Rattle.compaction.specs.Steps.{Laid}
+use Rattle.compaction.proofs.PassLaws.{row-there, row-reach, row_sized, row_in, filled}
+use Rattle.compaction.proofs.LaidLaws.{laid_none, laid_next}
 use Rattle.compaction.specs.Compact.{row_shown}
-use Rattle.views.specs.View.{view_at}
-use Rattle.column.specs.Meaning.{shown, blocks_of, row_view}
+use Rattle.column.specs.Meaning.{row_view}
 use Rattle.column.specs.Room.{bare}
 use Rattle.bounds.specs.Bounds.{row-limit-small}
-use lib.ListN.{length}
 use native.Mathlib.Numerals.{add-one}
 use mathlib.Core.Path.{◌≡◌, refl}
-use Prim.Native.Nat.{◌+◌, ◌-◌, ◌≤◌, ◌<◌}
+use Prim.Native.Nat.{◌<◌}
 use native.Mathlib.Omega.{arith}
-use borrow.Author.Rules.{rules}
 use Rattle.compaction.proofs.write.Goals as goal
 
 pub loop-k-init : goal.loop-k-init
@@ -25,16 +21,16 @@ put_row-s-requires c =
     let a = c.args in
     let p = c.requires in
     let l = c.loop-k in
-    let h : l.k < a.c.rows = omega arith in (
-      (
-        row-there a.most a.views.now a.bytes.now a.starts.now a.lens.now a.c a.newviews.now a.newbytes.now p.0
-            p.1 l.k h,
+    let h : l.k < a.c.rows = omega arith in record {
+      source = (
+        row-there a.most a.views.now a.bytes.now a.starts.now a.lens.now a.c a.newviews.now a.newbytes.now p.source
+            p.room l.k h,
         row-reach a.most a.views.now a.bytes.now a.starts.now a.lens.now a.c a.newviews.now
-            a.newbytes.now p.0 p.1 l.k h,
-      ),
-      row_in a.most a.views.now a.bytes.now a.starts.now a.lens.now a.c
-          a.newviews.now a.newbytes.now p.0 p.1 l.k h _ _ _ l.invariant.3.stand l.invariant.1 l.invariant.2,
-    )
+            a.newbytes.now p.source p.room l.k h,
+      );
+      room = row_in a.most a.views.now a.bytes.now a.starts.now a.lens.now a.c
+          a.newviews.now a.newbytes.now p.source p.room l.k h _ _ _ l.invariant.3.stand l.invariant.1 l.invariant.2;
+    }
 
 pub overflow_add-k : goal.overflow_add-k
 overflow_add-k c = omega (arith, row-limit-small)
@@ -54,7 +50,7 @@ loop-k-preserved c =
       rw (add-one l.k) (laid_next a.most (row_view (bare a.views.now a.bytes.now a.starts.now a.lens.now) a.c)
           (row_shown (bare a.views.now a.bytes.now a.starts.now a.lens.now) a.c)
           _ _ l.k _ _ l.s _ _ _ (λ r g. row_sized a.most a.views.now a.bytes.now a.starts.now a.lens.now a.c
-          a.newviews.now a.newbytes.now p.0 p.1 r (omega arith)) l.invariant.3 c.put_row-s.ensures),
+          a.newviews.now a.newbytes.now p.source p.room r (omega arith)) l.invariant.3 c.put_row-s.ensures),
     )
 
 pub returns : goal.returns
@@ -63,5 +59,5 @@ returns c =
     let p = c.requires in
     let l = c.loop-k in
     let q : l.k ≡ a.c.rows = omega arith in
-    filled a.most a.views.now a.bytes.now a.starts.now a.lens.now a.c a.newviews.now a.newbytes.now p.0 p.1
+    filled a.most a.views.now a.bytes.now a.starts.now a.lens.now a.c a.newviews.now a.newbytes.now p.source p.room
     l.newviews l.newbytes l.s (rw q at l.invariant.3)

@@ -1,17 +1,10 @@
-use Rattle.compaction.specs.PassLaws.{row-there, row-reach, row_sized, row_in, filled}
-use Rattle.compaction.specs.LaidLaws.{laid_none, laid_next}
 use Rattle.compaction.specs.Steps.{Laid}
-use Rattle.compaction.specs.Compact.{row_shown}
 use Rattle.views.specs.View.{view_at}
-use Rattle.column.specs.Meaning.{shown, blocks_of, row_view}
+use Rattle.column.specs.Meaning.{shown, blocks_of}
 use Rattle.column.specs.Room.{bare}
-use Rattle.bounds.specs.Bounds.{row-limit-small}
 use lib.ListN.{length}
-use native.Mathlib.Numerals.{add-one}
-use mathlib.Core.Path.{◌≡◌, refl}
-use Prim.Native.Nat.{◌+◌, ◌-◌, ◌≤◌, ◌<◌}
-use native.Mathlib.Omega.{arith}
-use borrow.Author.Rules.{rules}
+use mathlib.Core.Path.{◌≡◌}
+use Prim.Native.Nat.{◌+◌, ◌-◌, ◌≤◌}
 use Rattle.compaction.proofs.write.Given as goal
 
 abbrev pub invariant-loop-k : goal.invariant-loop-k

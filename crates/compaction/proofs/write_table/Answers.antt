@@ -1,11 +1,9 @@
-use Rattle.compaction.specs.PassLaws.{table-in, few-at, listed-none, last-in, listed-some}
-use Rattle.compaction.specs.LaidLaws.{tabled-none, tabled_step}
-use Rattle.compaction.specs.Steps.{CutTabled}
+use Rattle.compaction.proofs.PassLaws.{table-in, few-at, listed-none, last-in, listed-some}
+use Rattle.compaction.proofs.LaidLaws.{tabled-none, tabled_step}
 use Rattle.views.specs.View.{view_at}
 use Rattle.bounds.specs.Bounds.{row-limit-small}
-use lib.ListN.{length}
 use mathlib.Core.Path.{◌≡◌, refl}
-use Prim.Native.Nat.{◌+◌, ◌-◌, ◌≤◌}
+use Prim.Native.Nat.{◌+◌}
 use native.Mathlib.Omega.{arith}
 use borrow.Author.Rules.{rules}
 use Rattle.compaction.proofs.write_table.Goals as goal

@@ -1,13 +1,8 @@
-use Rattle.compaction.specs.PassLaws.{table-in, few-at, listed-none, last-in, listed-some}
-use Rattle.compaction.specs.LaidLaws.{tabled-none, tabled_step}
 use Rattle.compaction.specs.Steps.{CutTabled}
 use Rattle.views.specs.View.{view_at}
-use Rattle.bounds.specs.Bounds.{row-limit-small}
 use lib.ListN.{length}
-use mathlib.Core.Path.{◌≡◌, refl}
+use mathlib.Core.Path.{◌≡◌}
 use Prim.Native.Nat.{◌+◌, ◌-◌, ◌≤◌}
-use native.Mathlib.Omega.{arith}
-use borrow.Author.Rules.{rules}
 use Rattle.compaction.proofs.write_table.Given as goal
 
 abbrev pub invariant-loop-k : goal.invariant-loop-k

@@ -2,10 +2,8 @@
 use mathlib.Core.Bool.{true≢false}
 use mathlib.Core.Path.{sym, ◌∙◌}
 use native.Mathlib.Omega.{arith}
-use borrow.Author.Tests.{not-true, not-false}
 use Rattle.bounds.specs.Bounds.{most-compaction-is, row-limit-small}
 use Rattle.compaction_blocks.proofs.PlanLaws.{fits_low, plan-setting, plan-fit, plan-row, plan-rooms}
-use borrow.Author.Rules.{rules}
 use Rattle.compaction_blocks.proofs.judge_with.Goals as goal
 
 pub planned-requires : goal.planned-requires

@@ -1,6 +1,5 @@
 -- `compaction_blocks::last_place` meets its contract. Assumes nothing.
 use Rattle.compaction_blocks.proofs.TurnLaws.{last_none, last_some}
-use borrow.Author.Rules.{rules}
 use Rattle.compaction_blocks.proofs.last_place.Goals as goal
 
 pub returns-then-base-fill-eq0 : goal.returns-then-base-fill-eq0

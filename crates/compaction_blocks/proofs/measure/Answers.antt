@@ -1,11 +1,8 @@
 -- `compaction_blocks::measure` meets its contract. Assumes nothing.
-use Prim.Native.Nat.{◌+◌, ◌-◌, ◌*◌, ◌≤◌}
 use mathlib.Core.Path.{◌≡◌}
 use native.Mathlib.Omega.{arith}
 use Rattle.bounds.specs.Bounds.{row-limit-small}
-use Rattle.views.specs.View.{view_at}
-use Rattle.compaction.specs.CutLaws.{stand-none, stand-next, next_grows}
-use Rattle.compaction.specs.Steps.{stand_at}
+use Rattle.compaction.proofs.CutLaws.{stand-none, stand-next, next_grows}
 use Rattle.compaction_blocks.proofs.measure.Goals as goal
 
 pub loop-k-init : goal.loop-k-init

@@ -1,7 +1,6 @@
 -- `compaction_blocks::place` meets its contract. Assumes nothing.
 use native.Mathlib.Omega.{arith}
 use Rattle.compaction_blocks.proofs.TurnLaws.{place_short, place_in, place-over}
-use borrow.Author.Rules.{rules}
 use Rattle.compaction_blocks.proofs.place.Goals as goal
 
 pub returns-then-n-le-SHORT_MOST : goal.returns-then-n-le-SHORT_MOST

@@ -1,9 +1,7 @@
 -- `compaction_blocks::planned` meets its contract. Assumes nothing.
 use native.Mathlib.Omega.{arith}
 use mathlib.Core.Path.{sym, ◌∙◌}
-use borrow.Author.Tests.{not-true, not-false}
 use Rattle.compaction_blocks.proofs.PlanLaws.{plan-no, plan-yes}
-use borrow.Author.Rules.{rules}
 use Rattle.compaction_blocks.proofs.planned.Goals as goal
 
 pub returns-then-not-is_accepted : goal.returns-then-not-is_accepted

@@ -2,7 +2,6 @@
 use mathlib.Core.Path.{refl, sym, ◌∙◌}
 use Rattle.bounds.specs.Refusals.{accepted-yes, accepted-no}
 use Rattle.compaction.specs.Steps.{map_by}
-use borrow.Author.Rules.{rules}
 use Rattle.compaction_blocks.proofs.put_map.Goals as goal
 
 pub put_map-requires : goal.put_map-requires

@@ -4,10 +4,9 @@ use Prim.Native.Nat.{◌*◌}
 use lib.ListN.{length}
 use native.Mathlib.Omega.{arith}
 use Rattle.views.specs.View.{view_size}
-use Rattle.column.specs.SpotLaws.{spot-lies}
-use Rattle.compaction.specs.CutLaws.{view-paste, row-short, row-long}
+use Rattle.column.proofs.SpotLaws.{spot-lies}
+use Rattle.compaction.proofs.CutLaws.{view-paste, row-short, row-long}
 use Rattle.compaction_blocks.proofs.PlanLaws.{value-sized, value-is}
-use borrow.Author.Rules.{rules}
 use Rattle.compaction_blocks.proofs.put_row.Goals as goal
 
 pub returns-then-view_len-le-SHORT_MOST : goal.returns-then-view_len-le-SHORT_MOST
@@ -22,14 +21,14 @@ returns-then-view_len-le-SHORT_MOST c =
 
 pub part_of-value-requires : goal.part_of-value-requires
 part_of-value-requires c =
-    spot-lies _ _ _ _ _ _ _ c.room_of.ensures c.spot_with-spot.ensures c.requires.0.0
+    spot-lies _ _ _ _ _ _ _ c.room_of.ensures c.spot_with-spot.ensures c.requires.source.0
 
 pub put_long-requires : goal.put_long-requires
 put_long-requires c =
     let p = c.requires in
     let e = ap length c.part_of-value.ensures.0
-    ∙ value-sized _ _ _ _ _ _ _ c.room_of.ensures c.spot_with-spot.ensures p.0.0 p.0.1 in
-    rw e (p.1.long (omega (arith, c.view_len.ensures)))
+    ∙ value-sized _ _ _ _ _ _ _ c.room_of.ensures c.spot_with-spot.ensures p.source.0 p.source.1 in
+    rw e (p.room.long (omega (arith, c.view_len.ensures)))
 
 pub returns : goal.returns
 returns c =

@@ -2,9 +2,7 @@
 use native.Mathlib.Omega.{arith}
 use mathlib.Core.Bool.{true≢false}
 use mathlib.Core.Path.{refl, sym, ◌∙◌}
-use borrow.Author.Tests.{not-true}
 use Rattle.bounds.specs.Bounds.{most-compaction-is}
-use borrow.Author.Rules.{rules}
 use Rattle.compaction_blocks.proofs.rows_with.Goals as goal
 
 pub returns-then-most-gt-MOST_COMPACTION : goal.returns-then-most-gt-MOST_COMPACTION

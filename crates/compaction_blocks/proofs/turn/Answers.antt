@@ -2,7 +2,6 @@
 use mathlib.Core.Path.{refl, ap, ◌∙◌}
 use native.Mathlib.Omega.{arith}
 use Rattle.compaction_blocks.specs.Turns.{record_place}
-use borrow.Author.Rules.{rules}
 use Rattle.compaction_blocks.proofs.turn.Goals as goal
 
 pub last_place-requires : goal.last_place-requires
@@ -30,7 +29,7 @@ overflow_add-first-2 c =
 
 pub put_row-stand-requires : goal.put_row-stand-requires
 put_row-stand-requires c =
-    let p = c.requires in ((p.row (omega arith), p.reach (omega arith)), p.room (omega arith))
+    let p = c.requires in record { source = (p.row (omega arith), p.reach (omega arith)); room = p.room (omega arith) }
 
 pub overflow_add-result : goal.overflow_add-result
 overflow_add-result c =

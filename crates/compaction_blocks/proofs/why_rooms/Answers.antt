@@ -1,6 +1,5 @@
 -- `compaction_blocks::why_rooms` meets its contract. Assumes nothing.
 use native.Mathlib.Omega.{arith}
-use borrow.Author.Tests.{not-true, not-false}
 use Rattle.bounds.specs.Bounds.{row-limit-is, block-limit-is, byte-limit-is}
 use Rattle.compaction_blocks.proofs.PlanLaws.{rooms-limit, rooms-views, rooms-map, rooms-blocks, rooms-count, rooms-total, rooms-bytes, rooms-yes}
 use Rattle.compaction_blocks.proofs.why_rooms.Goals as goal

@@ -1,6 +1,5 @@
 use Rattle.utf8.specs.Cut.{begins-end}
 use native.Mathlib.Omega.{arith}
-use borrow.Author.Rules.{rules}
 use Rattle.offsets.proofs.begins.Goals as goal
 
 pub returns-then-bytes-o : goal.returns-then-bytes-o

@@ -1,10 +1,8 @@
 use Prim.Native.Nat.{ℕ, ◌-◌}
 use Rattle.offsets.specs.CallLaws.{converted-not, converted, allowed, roomed, write-in}
 use Rattle.offsets.specs.Offsets.{width_of, source}
-use borrow.Author.Tests.{not-true, not-false}
 use mathlib.Core.Path.{sym, ap, ◌∙◌}
 use native.Mathlib.Omega.{arith}
-use borrow.Author.Rules.{rules}
 use Rattle.offsets.proofs.convert.Goals as goal
 
 pub returns-then-not-is_accepted : goal.returns-then-not-is_accepted

@@ -1,7 +1,6 @@
 use Rattle.offsets.specs.OffsetLaws.{cut-negative, cut-past, cut-rest}
 use Rattle.offsets.specs.Offsets.{width_of}
 use native.Mathlib.Omega.{arith}
-use borrow.Author.Rules.{rules}
 use Rattle.offsets.proofs.cut.Goals as goal
 
 pub returns-then-half_of-last : goal.returns-then-half_of-last

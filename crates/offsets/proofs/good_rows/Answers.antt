@@ -1,9 +1,8 @@
 use Rattle.offsets.specs.Offsets.{source, width_of, kind_at}
-use Prim.Native.Nat.{ℕ, ◌-◌, ◌≤◌, ◌<◌}
+use Prim.Native.Nat.{ℕ}
 use mathlib.Core.Bool.{true}
 use borrow.Author.Count.{below_more}
 use Rattle.offsets.proofs.TextLaws.{kind-any}
-use borrow.Author.Tests.{not-true, not-false}
 use mathlib.Core.Path.{◌≡◌, sym, ◌∙◌}
 use native.Mathlib.Omega.{arith}
 use Rattle.offsets.proofs.good_rows.Goals as goal

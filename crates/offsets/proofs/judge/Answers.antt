@@ -2,10 +2,9 @@ use Rattle.column.specs.Lent.{lent}
 use Prim.Native.Nat.{ℕ, ◌-◌}
 use Rattle.offsets.specs.CallLaws.{refused_none, refused-map, refused-cut, refused-kind, judged, source_in}
 use Rattle.offsets.specs.Offsets.{width_of, source}
-use borrow.Author.Tests.{not-false}
+use mathlib.Core.Bool.{not}
 use mathlib.Core.Path.{sym, ap, ◌∙◌}
 use native.Mathlib.Omega.{arith}
-use borrow.Author.Rules.{rules}
 use Rattle.offsets.proofs.judge.Goals as goal
 
 pub returns-then-n-eq0 : goal.returns-then-n-eq0
@@ -24,7 +23,7 @@ returns-then-not-cut c =
     let a = c.args in refused-cut (width_of a.large) (source a.offsets.now a.bytes.now a.nulls.now a.mapped) a.kind
     (lent a.newviews.now a.newbytes.now a.newstarts.now a.newlens.now a.newnulls.now) _
     (ap (λ (n : ℕ). n - 1) c.count-n.ensures.0) (sym c.map_short.ensures
-    ∙ c.if-map_short.false) (rw c.cut.ensures at c.if-not-cut.true-raw)
+    ∙ c.if-map_short.false) (ap not (sym c.cut.ensures ∙ c.if-not-cut.true))
 
 pub good_rows-requires : goal.good_rows-requires
 good_rows-requires c =
@@ -38,12 +37,11 @@ returns-then-good_rows-rows c =
     (lent a.newviews.now a.newbytes.now a.newstarts.now a.newlens.now a.newnulls.now) _
     (ap (λ (n : ℕ). n - 1) c.count-n.ensures.0)
     (sym c.map_short.ensures ∙ c.if-map_short.false)
-    (rw c.cut.ensures at c.if-not-cut.false-raw) _ c.good_rows.ensures c.if-good_rows-rows.true
+    (ap not (sym c.cut.ensures ∙ c.if-not-cut.false)) _ c.good_rows.ensures c.if-good_rows-rows.true
 
 pub returns : goal.returns
 returns c =
     let a = c.args in judged (width_of a.large) (source a.offsets.now a.bytes.now a.nulls.now a.mapped) a.kind
     (lent a.newviews.now a.newbytes.now a.newstarts.now a.newlens.now a.newnulls.now) _
     (ap (λ (n : ℕ). n - 1) c.count-n.ensures.0) (sym c.map_short.ensures
-    ∙ c.if-map_short.false) (rw c.cut.ensures at
-    c.if-not-cut.false-raw) _ c.good_rows.ensures (omega arith) _ c.why_rooms.ensures
+    ∙ c.if-map_short.false) (ap not (sym c.cut.ensures ∙ c.if-not-cut.false)) _ c.good_rows.ensures (omega arith) _ c.why_rooms.ensures

@@ -1,6 +1,5 @@
 use lib.ListN.{length}
 use Rattle.offsets.specs.OffsetLaws.{short-map}
-use borrow.Author.Rules.{rules}
 use Rattle.offsets.proofs.map_short.Goals as goal
 
 pub returns-then-mapped : goal.returns-then-mapped

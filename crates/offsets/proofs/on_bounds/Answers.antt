@@ -1,12 +1,10 @@
 use Rattle.offsets.specs.Offsets.{width_of, offset_at}
-use Prim.Native.Nat.{ℕ, ◌+◌, ◌-◌, ◌≤◌, ◌<◌}
+use Prim.Native.Nat.{ℕ}
 use mathlib.Core.Bool.{true≢false}
 use borrow.Author.Count.{below_more}
 use Rattle.utf8.specs.Cut.{Begins}
-use borrow.Author.Tests.{not-false}
 use mathlib.Core.Path.{sym, subst}
 use native.Mathlib.Omega.{arith}
-use borrow.Author.Rules.{rules}
 use Rattle.offsets.proofs.on_bounds.Goals as goal
 
 pub loop-j-init : goal.loop-j-init

@@ -1,10 +1,8 @@
 use Rattle.offsets.specs.Offsets.{width_of}
 use lib.ListN.{length}
 use Rattle.offsets.proofs.RowLaws.{view-null, view-valid, cut_most}
-use borrow.Author.Tests.{not-true, not-false}
 use mathlib.Core.Path.{sym, ap, ◌∙◌}
 use native.Mathlib.Omega.{arith}
-use borrow.Author.Rules.{rules}
 use Rattle.offsets.proofs.put_row.Goals as goal
 
 pub returns-then-not-valid_at : goal.returns-then-not-valid_at

@@ -1,7 +1,3 @@
-use Rattle.offsets.specs.Steps.{rising}
-use Rattle.offsets.specs.Offsets.{width_of, offset_at}
-use Prim.Native.Nat.{◌-◌, ◌≤◌}
-use mathlib.Core.Bool.{true}
 use Rattle.offsets.specs.OffsetLaws.{rise-none, rise-more, rise-not}
 use mathlib.Core.Path.{◌≡◌, sym}
 use native.Mathlib.Omega.{arith}

@@ -2,9 +2,7 @@ use Rattle.offsets.specs.Steps.{rising}
 use Rattle.offsets.specs.Offsets.{width_of, offset_at}
 use Prim.Native.Nat.{◌-◌, ◌≤◌}
 use mathlib.Core.Bool.{true}
-use Rattle.offsets.specs.OffsetLaws.{rise-none, rise-more, rise-not}
-use mathlib.Core.Path.{◌≡◌, sym}
-use native.Mathlib.Omega.{arith}
+use mathlib.Core.Path.{◌≡◌}
 use Rattle.offsets.proofs.rises.Given as goal
 
 abbrev pub invariant-loop-j : goal.invariant-loop-j

@@ -1,7 +1,5 @@
 use Rattle.offsets.proofs.RowLaws.{kind-null, kind-valid}
-use borrow.Author.Tests.{not-true, not-false}
 use mathlib.Core.Path.{sym, ◌∙◌}
-use borrow.Author.Rules.{rules}
 use Rattle.offsets.proofs.row_of_kind.Goals as goal
 
 pub returns-then-not-valid_at : goal.returns-then-not-valid_at

@@ -1,5 +1,4 @@
 use Rattle.offsets.proofs.RowLaws.{cut-is}
-use borrow.Author.Rules.{rules}
 use Rattle.offsets.proofs.value_part.Goals as goal
 
 pub returns : goal.returns

@@ -2,10 +2,8 @@ use Prim.Native.Nat.{◌+◌}
 use Rattle.offsets.specs.Offsets.{width_of, cut_at}
 use mathlib.Core.Bool.{true≢false}
 use Rattle.offsets.proofs.TextLaws.{binary-all, text-row}
-use borrow.Author.Tests.{not-true, not-false}
 use mathlib.Core.Path.{sym, ◌∙◌}
 use native.Mathlib.Omega.{arith}
-use borrow.Author.Rules.{rules}
 use Rattle.offsets.proofs.whole.Goals as goal
 
 pub returns-then-not-is_text : goal.returns-then-not-is_text

@@ -1,11 +1,6 @@
-use Rattle.laying.specs.Written.{put_rows}
-use Rattle.offsets.specs.Offsets.{source, width_of, row_view_of}
-use Prim.Native.Nat.{◌-◌, ◌≤◌}
-use lib.ListN.{length}
 use Rattle.offsets.proofs.RowLaws.{rows_none, rows_more}
 use mathlib.Core.Path.{◌≡◌, refl}
 use native.Mathlib.Omega.{arith}
-use borrow.Author.Rules.{rules}
 use Rattle.offsets.proofs.write.Goals as goal
 
 pub loop-j-init : goal.loop-j-init

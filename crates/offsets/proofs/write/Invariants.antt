@@ -2,10 +2,7 @@ use Rattle.laying.specs.Written.{put_rows}
 use Rattle.offsets.specs.Offsets.{source, width_of, row_view_of}
 use Prim.Native.Nat.{◌-◌, ◌≤◌}
 use lib.ListN.{length}
-use Rattle.offsets.proofs.RowLaws.{rows_none, rows_more}
-use mathlib.Core.Path.{◌≡◌, refl}
-use native.Mathlib.Omega.{arith}
-use borrow.Author.Rules.{rules}
+use mathlib.Core.Path.{◌≡◌}
 use Rattle.offsets.proofs.write.Given as goal
 
 abbrev pub invariant-loop-j : goal.invariant-loop-j

@@ -1,7 +1,6 @@
 -- `output_blocks::cut` meets its contract. Assumes nothing.
 use lib.ListN.{length-take}
 use native.Mathlib.Omega.{arith}
-use borrow.Author.Rules.{rules}
 use Rattle.output_blocks.proofs.cut.Goals as goal
 
 pub slice_bounds-from_offsets-end-2 : goal.slice_bounds-from_offsets-end-2

@@ -11,13 +11,13 @@ use Rattle.column.specs.Lent.{Lent}
 use Rattle.column.specs.Room.{bare, InRoom}
 use Rattle.column.specs.Meaning.{row_view}
 use Rattle.column.specs.Truth.{reachable}
-use Rattle.column.specs.TruthLaws.{true-reach}
-use Rattle.column.specs.ReachLaws.{length-shown}
+use Rattle.column.proofs.TruthLaws.{true-reach}
+use Rattle.column.proofs.ReachLaws.{length-shown}
 use Rattle.compaction.specs.declared.Stand.{Stand}
 use Rattle.compaction.specs.Cut.{Cut, shut, cut_all, cut_lens}
 use Rattle.compaction.specs.Compact.{len_at, row_shown, long_of}
 use Rattle.compaction.specs.Steps.{stand_of, stand_at, SourceFits, RowIn, Few, WriteIn, TableIn, CutCounted, Laid, CutTabled, Filled, CutListed}
-use Rattle.compaction.specs.LaidLaws.{stand-below, long-below, lens_none, lens-some, shut-starts, shut-lens, count-blocks, lens-total}
+use Rattle.compaction.proofs.LaidLaws.{stand-below, long-below, lens_none, lens-some, shut-starts, shut-lens, count-blocks, lens-total}
 use Rattle.std.proofs.Math.Logic.{by_cases}
 use Rattle.std.proofs.Math.Decide.{ℕ_discrete}
 use Rattle.laying.specs.Written.{starts_from, total}

@@ -16,7 +16,7 @@ use Rattle.compaction.specs.declared.Stand.{Stand}
 use Rattle.compaction.specs.Cut.{Cut, cut, shut, add, room_for, cut_from, cut_all, cut_lens}
 use Rattle.compaction.specs.Compact.{long_of, placed_by, view_by}
 use Rattle.compaction.specs.Steps.{stand, stand_of, stand_at, room_stand, add_stand, row_step, closed_at, recorded_at, LongPut, ShortPut, RowPut, TablePut, put_by, Laid, CutTabled}
-use Rattle.compaction.specs.CutLaws.{cut-snoc, stand-room, stand-row}
+use Rattle.compaction.proofs.CutLaws.{cut-snoc, stand-room, stand-row}
 use Rattle.laying.specs.Written.{front, put_rows, starts_from, total}
 use Rattle.laying.specs.WrittenLaws.{flat-snoc, front-paste, front-set, length-starts, starts-snoc, total-append, total-one}
 

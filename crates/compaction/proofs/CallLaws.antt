@@ -15,12 +15,12 @@ use Rattle.bounds.specs.declared.Refusal.TheVariants.{Setting, Fit, BadView}
 use Rattle.bounds.specs.declared.Why.{Why}
 use Rattle.bounds.specs.declared.Why.TheVariants.{Refused}
 use Rattle.column.specs.declared.Column.{Column}
-use Rattle.column.specs.Lent.{Lent, block, lent, fits, in_data, row_room, block_room, data_room}
+use Rattle.column.specs.Lent.{Lent, lent, fits, in_data, row_room, block_room, data_room}
 use Rattle.column.specs.Room.{bare}
 use Rattle.column.specs.Meaning.{row_view, blocks_of, row_valid}
 use Rattle.column.specs.Truth.{reach_of, reachable, is_true, true_at, lowest}
-use Rattle.column.specs.FitLaws.{Fitting, fits_gives, length-table}
-use Rattle.column.specs.LowestLaws.{lowest-none, lowest-bad, lowest-good}
+use Rattle.column.proofs.FitLaws.{Fitting, fits_gives, length-table}
+use Rattle.column.proofs.LowestLaws.{lowest-none, lowest-bad, lowest-good}
 use Rattle.showing.specs.Rooms.{rooms}
 use Rattle.compaction.specs.declared.Stand.{Stand}
 use Rattle.compaction.specs.declared.Survey.{Survey}
@@ -28,7 +28,7 @@ use Rattle.compaction.specs.declared.Judged.{Judged}
 use Rattle.compaction.specs.declared.Outcome.{Outcome}
 use Rattle.compaction.specs.Compact.{long_lens, new_lens, why_compact, compacted, compact_column, compact_of, Wrote}
 use Rattle.compaction.specs.Steps.{stand_of, stand_at, SourceFits, Measured, Few, WriteIn, TableIn, CutCounted, Filled, CutListed, blocks_by, Judges, map_by}
-use Rattle.compaction.specs.LaidLaws.{stand-total, lens_none, count-blocks}
+use Rattle.compaction.proofs.LaidLaws.{stand-total, lens_none, count-blocks}
 use Rattle.laying.specs.RoomLaws.{RoomGiven, rooms-give}
 use Rattle.laying.specs.Rooms.{why_rooms}
 use Rattle.laying.specs.Written.{total}

@@ -9,7 +9,7 @@ use lib.ListN.{length, take, drop, length-append}
 use Rattle.basis.specs.Pick.{pick}
 use Rattle.bounds.specs.declared.Why.TheVariants.{Accepted}
 use Rattle.order.specs.Order.{same}
-use Rattle.order.specs.OrderLaws.{same_true}
+use Rattle.order.proofs.OrderLaws.{same_true}
 use Rattle.views.specs.View.{is_short}
 use Rattle.builder.specs.State.{Builder}
 use Rattle.promise.specs.Calls.{why, put, Ran, none, more, Cell}

@@ -12,7 +12,7 @@ use Rattle.bounds.specs.Refusals.{refuse, if_accepted}
 use Rattle.bounds.specs.declared.Why.{Why}
 use Rattle.bounds.specs.declared.Why.TheVariants.{Accepted}
 use Rattle.column.specs.Lent.{lent, row_room, block_room, data_room}
-use Rattle.column.specs.FitLaws.{length-table}
+use Rattle.column.proofs.FitLaws.{length-table}
 use Rattle.builder.specs.State.{Builder, rows_room, all_blocks}
 use Rattle.builder.specs.Get.{column_of}
 use Rattle.builder.specs.Start.{why_start, start_state, start_places, start}

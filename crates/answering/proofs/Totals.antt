@@ -17,7 +17,8 @@ use Rattle.views.specs.View.{is_short, length_of}
 use Rattle.column.specs.declared.Column.{Column}
 use Rattle.column.specs.Lent.{Lent}
 use Rattle.column.specs.Meaning.{row_view, row_valid}
-use Rattle.showing.specs.Shows.{Shows, shows-row, shows-bit}
+use Rattle.showing.specs.Shows.{Shows}
+use Rattle.showing.proofs.ShowsLaws.{shows-row, shows-bit}
 use Rattle.reading.specs.Reading.{why_fit, why_run, bit_when, bit_of, null_run, bytes_len, total_bytes_len, buffer_bytes, total_buffer_bytes_used}
 use Rattle.promise.specs.Calls.{Cell, no_value, bytes_in, valid_in}
 use Rattle.promise.proofs.Kept.{rows-shown, value-shown, bit-shown, cell-bytes, cell-bit}

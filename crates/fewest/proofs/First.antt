@@ -14,7 +14,7 @@ use Rattle.basis.specs.Pick.{pick}
 use Rattle.views.specs.View.{short_most, is_short}
 use Rattle.compaction.specs.Cut.{Cut, shut, add, is_none, room_for, cut_from, cut_all, cut_lens}
 use Rattle.compaction.specs.Compact.{long_of}
-use Rattle.compaction.specs.CutLaws.{cut_short, cut-long}
+use Rattle.compaction.proofs.CutLaws.{cut_short, cut-long}
 
 -- of these lengths only the first is 0
 abbrev FirstOnly : List ℕ → Type 0

@@ -17,7 +17,7 @@ use Rattle.column.specs.Laid.{flat}
 use Rattle.showing.specs.Row.{Row}
 use Rattle.laying.specs.WrittenLaws.{flat-snoc}
 use Rattle.compaction.specs.Compact.{long_of, view_by}
-use Rattle.compaction.specs.LaidLaws.{view-short}
+use Rattle.compaction.proofs.LaidLaws.{view-short}
 use Rattle.compaction.specs.Bounded.{points}
 use Rattle.compaction.proofs.Kept.{Fill, fill, lay, room_of, fills, Small, small-fills, fits-lay, view-placed}
 use Rattle.compaction.proofs.Bound.{points-short, points-long, get_or-other, get_or-empty}

@@ -9,7 +9,7 @@ use Rattle.column.specs.Laid.{rows_of}
 use Rattle.compaction.specs.declared.Outcome.{Outcome}
 use Rattle.compaction.specs.Bounded.{points}
 use Rattle.compaction_blocks.specs.Compacts.{Compacts}
-use Rattle.promise.specs.Answered.{Buffers, lent_as, Compact·met}
+use Rattle.promise.specs.Answered.{Buffers, lent_as, CompactMet}
 use Rattle.fewest.specs.Lawful.{those, long_rows, Lawful}
 
 -- the records of a column's blocks that aren't empty, by the lengths in its table
@@ -36,7 +36,7 @@ pub record Fewest (most : ℕ) (l : Lent) (c : Column) (m : Lent) (d : Column) :
 
 -- so it is with every accepted compaction, by the call's contract alone; over block tables of records too
 pub record NoFewer : Type 0 where
-  pub slices : (most : ℕ) (b : Buffers) (c : Column) (o : Buffers) (r : Outcome) (o' : Buffers) → Compact·met most b c o r o'
+  pub slices : (most : ℕ) (b : Buffers) (c : Column) (o : Buffers) (r : Outcome) (o' : Buffers) → CompactMet most b c o r o'
       → Fewest most (lent_as b) c (lent_as o') r.column
   pub records : (most : ℕ) (l : Lent) (c : Column) (out : Lent) (r : Outcome) (vs bs : List ℕ) (t : List Block) (ms : List ℕ)
       → Compacts most l c out r vs bs t ms → r.why ≡ Accepted

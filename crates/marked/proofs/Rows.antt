@@ -17,9 +17,9 @@ use Rattle.column.specs.declared.Column.{Column}
 use Rattle.column.specs.Lent.{Lent, fits}
 use Rattle.column.specs.Meaning.{shown_at, row_valid}
 use Rattle.column.specs.Truth.{reachable_at}
-use Rattle.column.specs.LowestLaws.{lowest-none}
+use Rattle.column.proofs.LowestLaws.{lowest-none}
 use Rattle.reading.specs.Reading.{why_run, why_row, why_value, bit_when, bit_of, value_at}
-use Rattle.reading.specs.ReadingLaws.{value-reached}
+use Rattle.reading.proofs.ReadingLaws.{value-reached}
 use Rattle.marks.specs.declared.Tallied.TheVariants.{Are}
 use Rattle.marks.specs.Marking.{row_mark, marked_when, mark_at, why_marks, is_mark, count_mark, marks_of}
 use Rattle.whole.specs.Answer.{ShelfRow, row, bit_valid, shelf_row_at, rows_from, shelf_rows}

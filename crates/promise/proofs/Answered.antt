@@ -28,14 +28,14 @@ use Rattle.promise.specs.Coded.{Slices, held_in}
 use Rattle.promise.specs.Made.{Made, built, again}
 use Rattle.promise.specs.Kept.{Filed}
 use Rattle.promise.specs.Kept as files
-use Rattle.promise.specs.Answered.{Buffers, lent_as, column_in, Start·met, Finish·met, Compact·met, Convert·met, Answered, finished_by, compacted_by, cells_of, Kept·by·contracts, Continued}
+use Rattle.promise.specs.Answered.{Buffers, lent_as, column_in, StartMet, FinishMet, CompactMet, ConvertMet, Answered, finished_by, compacted_by, cells_of, KeptByContracts, Continued}
 use Rattle.promise.proofs.Coded.{coded, met-why, met-put}
 use Rattle.promise.proofs.Kept.{kept}
 use Rattle.promise.proofs.Promised.{promised, filed}
 
 -- ---- start and finish
 
-module _ (t : Settings) (ps : List ℕ) (r : Answer) (ps' : List ℕ) (h : Slices) (m : Start·met t ps r ps' h) where
+module _ (t : Settings) (ps : List ℕ) (r : Answer) (ps' : List ℕ) (h : Slices) (m : StartMet t ps r ps' h) where
   start-why : why_start t ≡ Accepted
   start-why = sym (ap (λ (a : Answer). a.why) m.answers) ∙ m.accepted
 
@@ -47,7 +47,7 @@ module _ (t : Settings) (ps : List ℕ) (r : Answer) (ps' : List ℕ) (h : Slice
       let places : h.places ≡ cleared t.merging ps = m.places ∙ m.cleared ∙ ap (λ (y : Why). if_accepted y (cleared t.merging ps) ps) start-why in
       λ i. builder (state i) (lent_as (column_in h)) (places i)
 
-module _ (h : Slices) (r : Finished) (h' : Slices) (m : Finish·met h r h') where
+module _ (h : Slices) (r : Finished) (h' : Slices) (m : FinishMet h r h') where
   finish-why : why_finish (held_in h) ≡ Accepted
   finish-why = met-why finish h r.answer h' m.met
 
@@ -60,7 +60,7 @@ module _ (h : Slices) (r : Finished) (h' : Slices) (m : Finish·met h r h') wher
 
 -- ---- compaction and the offset column
 
-module _ (most : ℕ) (b : Buffers) (c : Column) (o : Buffers) (r : compaction.Outcome) (o' : Buffers) (m : Compact·met most b c o r o') where
+module _ (most : ℕ) (b : Buffers) (c : Column) (o : Buffers) (r : compaction.Outcome) (o' : Buffers) (m : CompactMet most b c o r o') where
   pub compact-why : why_compact most (lent_as b) c (lent_as o) ≡ Accepted
   unfolding compact_of
   compact-why = sym (ap (λ (a : compaction.Outcome). a.why) m.wrote.answer) ∙ m.accepted
@@ -75,7 +75,7 @@ module _ (most : ℕ) (b : Buffers) (c : Column) (o : Buffers) (r : compaction.O
   compact-column = sym (ap (λ (a : compaction.Outcome). a.column) m.wrote.answer
       ∙ ap (λ (y : Why). if_accepted y (compact_column most (lent_as b) c) c) compact-why)
 
-module _ (s : Source) (k : Kind) (o : Buffers) (r : offsets.Outcome) (o' : Buffers) (m : Convert·met s k o r o') where
+module _ (s : Source) (k : Kind) (o : Buffers) (r : offsets.Outcome) (o' : Buffers) (m : ConvertMet s k o r o') where
   convert-why : why_offsets 4 s k (lent_as o) ≡ Accepted
   unfolding offsets_of
   convert-why = sym (ap (λ (a : offsets.Outcome). a.why) m.converted.answer) ∙ m.accepted
@@ -116,7 +116,7 @@ made xs (finished_by t ps r ps' h m cs e e₁ d f e₂ n) =
 made xs (compacted_by most o r o' {b} {c} d m) = continued.made xs most b c o r o' (made xs d) m
 
 -- any list of values and nulls
-pub kept-by-contracts : (xs : List Item) → Kept·by·contracts xs
+pub kept-by-contracts : (xs : List Item) → KeptByContracts xs
 kept-by-contracts xs =
     record {
       shows = λ d. (promised xs).shows (made xs d);

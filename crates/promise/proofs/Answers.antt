@@ -12,7 +12,8 @@ use Rattle.column.specs.declared.Column.{Column}
 use Rattle.column.specs.Lent.{Lent}
 use Rattle.showing.specs.Row.{Row}
 use Rattle.showing.specs.Padded.{rows-compare}
-use Rattle.showing.specs.Shows.{Shows, shows-row, shows-value, shows-reach, shows-bit}
+use Rattle.showing.specs.Shows.{Shows}
+use Rattle.showing.proofs.ShowsLaws.{shows-row, shows-value, shows-reach, shows-bit}
 use Rattle.order.specs.Order.{cmp}
 use Rattle.reading.specs.Reading.{why_run, why_row, why_value, value_at, bit_of, bit_when}
 use Rattle.comparison.specs.Compare.{both_of, why_compare, compare_views, compare_rows, order_of}

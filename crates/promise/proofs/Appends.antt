@@ -27,7 +27,7 @@ use Rattle.showing.specs.Row.{short_row}
 use Rattle.showing.specs.Rooms.{both, passed}
 use Rattle.builder.specs.State.{Builder, rows_room, is_open, all_blocks, used, blocks_now, fits_open, closed, complete, sized, make_room, lay, add_row, add_rows}
 use Rattle.builder.specs.Values.{merges, hits, found_by, found, why_lay, why_store, why_rows, why_values, enter, store, put_found, put_value, put_values, why_null, put_null}
-use Rattle.builder.specs.CallLaws.{put-many}
+use Rattle.builder.proofs.CallLaws.{put-many}
 use Rattle.promise.specs.Calls.{Cell, cell, no_value, bytes_in}
 use Rattle.promise.proofs.Fits.{Fits, grow, room-is, rooms-enter, sizes-complete, sizes-grow}
 use Rattle.promise.proofs.Blocks.{now-row}

@@ -13,7 +13,7 @@ use Rattle.bounds.specs.declared.Why.TheVariants.{Accepted, Refused}
 use Rattle.column.specs.Lent.{block_room}
 use Rattle.showing.specs.Rooms.{passed}
 use Rattle.builder.specs.State.{Builder, all_blocks, fits_state}
-use Rattle.builder.specs.PutLaws.{room-blocks}
+use Rattle.builder.proofs.PutLaws.{room-blocks}
 use Rattle.builder.specs.Get.{why_get}
 use Rattle.builder.specs.Values.{why_values, why_null}
 use Rattle.builder.specs.Others.{why_block, why_view, why_column}

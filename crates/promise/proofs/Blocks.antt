@@ -14,7 +14,8 @@ use Rattle.basis.specs.Pick.{pick}
 use Rattle.column.specs.declared.Block.{Block}
 use Rattle.column.specs.Lent.{buffers, block, block_at}
 use Rattle.column.specs.Meaning.{blocks_of}
-use Rattle.showing.specs.Rows.{Ext, ext-last, ext-add}
+use Rattle.showing.specs.Rows.{Ext}
+use Rattle.showing.proofs.RowsLaws.{ext-last, ext-add}
 use Rattle.showing.specs.Stores.{length-blocks, blocks-set, blocks-paste, open-paste}
 use Rattle.builder.specs.declared.State.{State}
 use Rattle.builder.specs.State.{Builder, is_open, all_blocks, used, recorded, blocks_now, closed, complete, sized, lay, add_row}

@@ -22,7 +22,7 @@ use Rattle.builder.specs.Finish.{copied, finished}
 use Rattle.builder.specs.Does.{starts_of, lens_of, left}
 use Rattle.promise.specs.Calls.{Call, adds_values, adds_null, adds_block, adds_view, adds_column, finish_copy, finish, why, put, Ran}
 use Rattle.promise.specs.Calls as calls
-use Rattle.promise.specs.Coded.{Slices, held_in, Call·met, Coded, none, more, Codes}
+use Rattle.promise.specs.Coded.{Slices, held_in, CallMet, Coded, none, more, Codes}
 use Rattle.promise.proofs.Fits.{length-recorded}
 use Rattle.promise.proofs.Appends.{put-suc, put-zero}
 
@@ -109,7 +109,7 @@ same-builder : (e : Builder) {s : State} {vs bs : List ℕ} {t : List Block} {ms
 same-builder e p q r u v w = λ i. builder (p i) (buffers (q i) (r i) (u i) (v i)) (w i)
 
 -- a call that meets its contract and accepts leaves what it puts
-module _ (c : Call) (h : Slices) (r : Answer) (h' : Slices) (m : Call·met c h r h') where
+module _ (c : Call) (h : Slices) (r : Answer) (h' : Slices) (m : CallMet c h r h') where
   abbrev was : Builder
   was = held_in h
 

@@ -19,17 +19,17 @@ use Rattle.views.specs.ViewLaws.{drop-take}
 use Rattle.column.specs.declared.Kind.{Kind}
 use Rattle.column.specs.declared.Column.{Column}
 use Rattle.column.specs.Lent.{Lent, block_at, in_data, all_in_data, fits, block_room, data_room}
-use Rattle.column.specs.FitLaws.{in-data-gives}
+use Rattle.column.proofs.FitLaws.{in-data-gives}
 use Rattle.laying.specs.WrittenLaws.{flat-snoc}
 use Rattle.column.specs.Meaning.{row_view, blocks_of, shown, shown_at, row_valid}
 use Rattle.column.specs.Truth.{of_kind, true_at}
-use Rattle.column.specs.TruthLaws.{true_of}
+use Rattle.column.proofs.TruthLaws.{true_of}
 use Rattle.column.specs.Laid.{rows_of, flat}
 use Rattle.showing.specs.Row.{Row, row-short, row-long}
-use Rattle.showing.specs.Rows.{row_any}
+use Rattle.showing.proofs.RowsLaws.{row_any}
 use Rattle.showing.specs.Stores.{rows-list, length-blocks, blocks_at_lem, block-length}
 use Rattle.showing.specs.Truths.{true-row}
-use Rattle.showing.specs.Shows.{view-size}
+use Rattle.showing.proofs.ShowsLaws.{view-size}
 use Rattle.showing.specs.Rooms.{both, passed, all-passed, rooms, fitting}
 use Rattle.builder.specs.State.{Builder, rows_room, all_blocks, used, recorded, blocks_now, closed, complete, add_row}
 use Rattle.builder.specs.Others.{lay_blocks, block_bytes, sizes, renumbered, add_column, why_column, put_column}

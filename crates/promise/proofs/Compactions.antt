@@ -20,11 +20,12 @@ use Rattle.column.specs.declared.Column.{Column}
 use Rattle.column.specs.Lent.{Lent, block_at, data_room, fits, in_data, all_in_data, table_of}
 use Rattle.column.specs.Meaning.{row_view, shown_at}
 use Rattle.column.specs.Truth.{true_at}
-use Rattle.column.specs.LowestLaws.{lowest-none}
+use Rattle.column.proofs.LowestLaws.{lowest-none}
 use Rattle.column.specs.Laid.{rows_of, bits_of}
 use Rattle.showing.specs.Rooms.{passed, all-passed, both}
 use Rattle.showing.specs.Truths.{AllIn}
-use Rattle.showing.specs.Shows.{Shows, true-rows}
+use Rattle.showing.specs.Shows.{Shows}
+use Rattle.showing.proofs.ShowsLaws.{true-rows}
 use Rattle.reading.specs.Reading.{why_fit, buffer_bytes, total_buffer_bytes_used}
 use Rattle.reading.specs.declared.Number.TheVariants as number
 use Rattle.validity.specs.Check.{why_invalid}
@@ -32,7 +33,7 @@ use Rattle.laying.specs.Rooms.{why_rooms}
 use Rattle.laying.specs.Written.{total, starts_from}
 use Rattle.laying.specs.WrittenLaws.{total-append, total-one, records}
 use Rattle.compaction.specs.Compact.{long_of, long_lens, new_lens, why_compact, compacted, compact_column}
-use Rattle.compaction.specs.LaidLaws.{lens-total}
+use Rattle.compaction.proofs.LaidLaws.{lens-total}
 use Rattle.compaction.proofs.Compacted.{room, compacted-alike, compacted-true}
 use Rattle.compaction.proofs.Bound.{compacted-bounded}
 use Rattle.promise.specs.Compactions.{Alike, lens_of_first, Compactions}

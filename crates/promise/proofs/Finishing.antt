@@ -20,13 +20,14 @@ use Rattle.column.specs.declared.Column.{Column}
 use Rattle.column.specs.Lent.{Lent, row_room, block_room, all_in_data, in_data}
 use Rattle.column.specs.Meaning.{row_view, blocks_of, row_valid}
 use Rattle.column.specs.Truth.{of_kind, true_at}
-use Rattle.column.specs.LowestLaws.{lowest-none}
+use Rattle.column.proofs.LowestLaws.{lowest-none}
 use Rattle.column.specs.Laid.{rows_of, views_of, bits_of}
 use Rattle.showing.specs.Rows.{Rows, rnil}
 use Rattle.showing.specs.Stores.{rows_same, rows-list}
 use Rattle.showing.specs.Truths.{AllIn, row-true}
 use Rattle.showing.specs.Rooms.{passed, fitted, both}
-use Rattle.showing.specs.Shows.{Shows, shows-row, shows-rows}
+use Rattle.showing.specs.Shows.{Shows}
+use Rattle.showing.proofs.ShowsLaws.{shows-row, shows-rows}
 use Rattle.validity.specs.Check.{why_invalid}
 use Rattle.builder.specs.declared.Merging.{Merging}
 use Rattle.builder.specs.declared.Merging.TheVariants.{Off, On, UpTo}

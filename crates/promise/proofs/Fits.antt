@@ -10,7 +10,7 @@ use lib.ListN.{length, set, length-set}
 use lib.Seq.{length-paste}
 use Rattle.basis.specs.Pick.{pick}
 use Rattle.growth.specs.Growing.{fits_growth}
-use Rattle.null_bits.specs.PutLaws as bits
+use Rattle.null_bits.proofs.PutLaws as bits
 use Rattle.column.specs.declared.Block.{Block}
 use Rattle.column.specs.Lent.{Lent, block, row_room, block_room, data_room}
 use Rattle.showing.specs.Rooms.{both}

@@ -11,12 +11,12 @@ use Rattle.bounds.specs.Refusals.{refuse, is_accepted}
 use Rattle.bounds.specs.declared.Why.{Why}
 use Rattle.bounds.specs.declared.Why.TheVariants.{Accepted, Refused}
 use Rattle.order.specs.Order.{same}
-use Rattle.order.specs.OrderLaws.{same_true}
+use Rattle.order.proofs.OrderLaws.{same_true}
 use Rattle.views.specs.View.{view_at}
 use Rattle.column.specs.Meaning.{blocks_of, shown_at}
 use Rattle.column.specs.Truth.{reachable}
 use Rattle.showing.specs.Row.{Row}
-use Rattle.showing.specs.Rows.{rows-length}
+use Rattle.showing.proofs.RowsLaws.{rows-length}
 use Rattle.showing.specs.Stores.{length-rows}
 use Rattle.showing.specs.Truths.{AllIn, row-reachable}
 use Rattle.showing.specs.Rooms.{both, passed}

@@ -13,7 +13,8 @@ use Rattle.column.specs.declared.Column.{Column}
 use Rattle.column.specs.Lent.{Lent}
 use Rattle.column.specs.Truth.{of_kind}
 use Rattle.column.specs.Laid.{rows_of}
-use Rattle.showing.specs.Shows.{Shows, shows-rows}
+use Rattle.showing.specs.Shows.{Shows}
+use Rattle.showing.proofs.ShowsLaws.{shows-rows}
 use Rattle.order.specs.Order.{cmp}
 use Rattle.comparison.specs.Compare.{compare_rows, order_of}
 use Rattle.comparison.specs.declared.Compared.TheVariants as compared

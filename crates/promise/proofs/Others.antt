@@ -21,7 +21,7 @@ use Rattle.column.specs.Laid.{rows_of, flat, put_table}
 use Rattle.laying.specs.WrittenLaws.{flat-snoc}
 use Rattle.showing.specs.Row as row
 use Rattle.showing.specs.Row.{Row, short_row, long-row}
-use Rattle.showing.specs.Rows.{rows_ext, ext-add}
+use Rattle.showing.proofs.RowsLaws.{rows_ext, ext-add}
 use Rattle.showing.specs.Stores.{length-blocks, blocks_at_lem, block-length}
 use Rattle.showing.specs.LaidLaws.{length-put-table, blocks-put, table-ends}
 use Rattle.showing.specs.Rooms.{both, passed}

@@ -15,19 +15,19 @@ use Rattle.offsets.proofs.from_offsets.Kinds as offsets-kinds
 use Rattle.offsets.proofs.from_offsets.Reads as offsets
 use Rattle.bounds.specs.declared.Why.TheVariants.{Accepted}
 use Rattle.offsets.specs.Offsets.{source}
-use Rattle.promise.specs.Answered.{Buffers, Start·met, Finish·met, Compact·met, Convert·met}
+use Rattle.promise.specs.Answered.{Buffers, StartMet, FinishMet, CompactMet, ConvertMet}
 use Rattle.promise.proofs.Tied.{start-out, finish-in, finish-out, finish-met}
 
 -- an accepted start, with slices of any content
 pub start-answers : (κs : Lfts 1) (a : Dens κs start-kinds.ps) (z : (res_t start-kinds.r κs).Denot) (s : AtExit (ended_of 1 start-kinds.ps start-kinds.r)
     κs) → begin.Post κs a z s → z.why ≡ Accepted
-    → (vs bs ss ns ms : List ℕ) → Start·met a.0 a.1.0.now z s.1.0.now (start-out κs z s vs bs ss ns ms)
+    → (vs bs ss ns ms : List ℕ) → StartMet a.0 a.1.0.now z s.1.0.now (start-out κs z s vs bs ss ns ms)
 start-answers κs a z s p e vs bs ss ns ms = record { answers = p.0; cleared = p.1; accepted = e; state = refl; places = refl }
 
 -- an accepted finish
 pub finish-answers : (κs : Lfts 6) (a : Dens κs finish-kinds.ps) (z : (res_t finish-kinds.r κs).Denot)
     (s : AtExit (ended_of 6 finish-kinds.ps finish-kinds.r) κs) → ends.Post κs a z s → z.answer.why ≡ Accepted
-    → Finish·met (finish-in κs a) z (finish-out κs a z s)
+    → FinishMet (finish-in κs a) z (finish-out κs a z s)
 finish-answers κs a z s p e = record { met = finish-met κs a z s p e; column = p.1 }
 
 -- an accepted compaction
@@ -54,7 +54,7 @@ compact-out κs s = record {
 
 pub compact-answers : (κs : Lfts 9) (a : Dens κs compact-kinds.ps) (z : (res_t compact-kinds.r κs).Denot)
     (s : AtExit (ended_of 9 compact-kinds.ps compact-kinds.r) κs) → compact.Post κs a z s → z.why ≡ Accepted
-    → Compact·met a.1.1.1.1.1.1.0 (compact-of κs a) a.1.1.1.1.1.0 (compact-in κs a) z (compact-out κs s)
+    → CompactMet a.1.1.1.1.1.1.0 (compact-of κs a) a.1.1.1.1.1.0 (compact-in κs a) z (compact-out κs s)
 compact-answers κs a z s p e = record { wrote = p; accepted = e }
 
 -- an accepted conversion
@@ -80,5 +80,5 @@ offsets-out κs s = record {
 
 pub offsets-answers : (κs : Lfts 8) (a : Dens κs offsets-kinds.ps) (z : (res_t offsets-kinds.r κs).Denot)
     (s : AtExit (ended_of 8 offsets-kinds.ps offsets-kinds.r) κs) → offsets.Post κs a z s → z.why ≡ Accepted
-    → Convert·met (source a.0.now a.1.0.now a.1.1.0.now a.1.1.1.0) a.1.1.1.1.0 (offsets-in κs a) z (offsets-out κs s)
+    → ConvertMet (source a.0.now a.1.0.now a.1.1.0.now a.1.1.1.0) a.1.1.1.1.0 (offsets-in κs a) z (offsets-out κs s)
 offsets-answers κs a z s p e = record { converted = p; accepted = e }

@@ -14,7 +14,8 @@ use Rattle.column.specs.Lent.{block_room, data_room}
 use Rattle.column.specs.Laid.{rows_of}
 use Rattle.showing.specs.Row as row
 use Rattle.showing.specs.Row.{Row, placed}
-use Rattle.showing.specs.Rows.{Rows, rows_snoc, rows_ext, rows_at}
+use Rattle.showing.specs.Rows.{Rows}
+use Rattle.showing.proofs.RowsLaws.{rows_snoc, rows_ext, rows_at}
 use Rattle.showing.specs.Stores.{length-rows, get_d_rows, views-paste, bits_put}
 use Rattle.builder.specs.State.{Builder, rows_room, all_blocks, used, blocks_now, recorded, closed, complete, sized, lay, add_row}
 use Rattle.merging.specs.declared.Found.{Found}

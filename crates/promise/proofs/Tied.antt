@@ -31,7 +31,7 @@ use Rattle.builder.specs.declared.Answer.{Answer}
 use Rattle.builder.specs.State.{Builder, builder}
 use Rattle.builder.specs.Start.{why_start, started, unstarted, start_state, cleared, start_places, start}
 use Rattle.promise.specs.Calls.{Call, Ran, adds_values, adds_null, adds_block, adds_view, adds_column, finish_copy, finish}
-use Rattle.promise.specs.Coded.{Slices, held_in, Call·met, Coded}
+use Rattle.promise.specs.Coded.{Slices, held_in, CallMet, Coded}
 use Rattle.promise.specs.Kept.{Reached, by_calls}
 use Rattle.promise.proofs.Coded.{coded}
 
@@ -60,7 +60,7 @@ values-out κs z s = record {
 
 pub values-met : (κs : Lfts 7) (a : Dens κs values-kinds.ps) (z : (res_t values-kinds.r κs).Denot)
     (s : AtExit (ended_of 7 values-kinds.ps values-kinds.r) κs) → values.Post κs a z s → z.why ≡ Accepted
-    → Call·met (adds_values a.1.1.1.1.1.1.1.1.0 a.1.1.1.1.1.1.1.0.now) (values-in κs a) z (values-out κs z s)
+    → CallMet (adds_values a.1.1.1.1.1.1.1.1.0 a.1.1.1.1.1.1.1.0.now) (values-in κs a) z (values-out κs z s)
 values-met κs a z s p e = record { does = p; accepted = e; state = refl }
 
 -- a value
@@ -88,7 +88,7 @@ value_out κs z s = record {
 
 pub value-met : (κs : Lfts 7) (a : Dens κs value-kinds.ps) (z : (res_t value-kinds.r κs).Denot) (s : AtExit (ended_of 7 value-kinds.ps value-kinds.r) κs)
     → value.Post κs a z s → z.why ≡ Accepted
-    → Call·met (adds_values 1 a.1.1.1.1.1.1.1.0.now) (value_in_lem κs a) z (value_out κs z s)
+    → CallMet (adds_values 1 a.1.1.1.1.1.1.1.0.now) (value_in_lem κs a) z (value_out κs z s)
 value-met κs a z s p e = record { does = p; accepted = e; state = refl }
 
 -- a null
@@ -117,7 +117,7 @@ null-out κs a z s = record {
 
 pub null-met : (κs : Lfts 6) (a : Dens κs null-kinds.ps) (z : (res_t null-kinds.r κs).Denot) (s : AtExit (ended_of 6 null-kinds.ps null-kinds.r) κs)
     → null.Post κs a z s → z.why ≡ Accepted
-    → Call·met adds_null (null-in κs a) z (null-out κs a z s)
+    → CallMet adds_null (null-in κs a) z (null-out κs a z s)
 null-met κs a z s p e = record { does = p; accepted = e; state = refl }
 
 -- a block
@@ -145,7 +145,7 @@ block_out κs a z s = record {
 
 pub block-met : (κs : Lfts 7) (a : Dens κs block-kinds.ps) (z : (res_t block-kinds.r κs).Denot) (s : AtExit (ended_of 7 block-kinds.ps block-kinds.r) κs)
     → block.Post κs a z s → z.answer.why ≡ Accepted
-    → Call·met (adds_block a.1.1.1.1.1.1.1.0.now) (block_in κs a) z.answer (block_out κs a z s)
+    → CallMet (adds_block a.1.1.1.1.1.1.1.0.now) (block_in κs a) z.answer (block_out κs a z s)
 block-met κs a z s p e = record { does = p.0; accepted = e; state = refl }
 
 -- a view of a completed block
@@ -173,7 +173,7 @@ view_out κs a z s = record {
 
 pub view-met : (κs : Lfts 6) (a : Dens κs view-kinds.ps) (z : (res_t view-kinds.r κs).Denot) (s : AtExit (ended_of 6 view-kinds.ps view-kinds.r) κs)
     → view.Post κs a z s → z.why ≡ Accepted
-    → Call·met (adds_view a.1.1.1.1.1.1.1.0 a.1.1.1.1.1.1.1.1.0 a.1.1.1.1.1.1.1.1.1.0) (view_in_lem κs a) z (view_out κs a z s)
+    → CallMet (adds_view a.1.1.1.1.1.1.1.0 a.1.1.1.1.1.1.1.1.0 a.1.1.1.1.1.1.1.1.1.0) (view_in_lem κs a) z (view_out κs a z s)
 view-met κs a z s p e = record { does = p; accepted = e; state = refl }
 
 -- a column, with its own slices
@@ -201,7 +201,7 @@ column-out κs a z s = record {
 
 pub column-met : (κs : Lfts 10) (a : Dens κs column-kinds.ps) (z : (res_t column-kinds.r κs).Denot)
     (s : AtExit (ended_of 10 column-kinds.ps column-kinds.r) κs) → column.Post κs a z s → z.why ≡ Accepted
-    → Call·met (adds_column (lent a.1.1.1.1.1.1.1.0.now a.1.1.1.1.1.1.1.1.0.now a.1.1.1.1.1.1.1.1.1.0.now
+    → CallMet (adds_column (lent a.1.1.1.1.1.1.1.0.now a.1.1.1.1.1.1.1.1.0.now a.1.1.1.1.1.1.1.1.1.0.now
     a.1.1.1.1.1.1.1.1.1.1.0.now a.1.1.1.1.1.1.1.1.1.1.1.0.now) a.1.1.1.1.1.1.1.1.1.1.1.1.0)
     (column-in κs a) z (column-out κs a z s)
 column-met κs a z s p e = record { does = p; accepted = e; state = refl }
@@ -231,7 +231,7 @@ copy-out κs a z s = record {
 
 pub copy_met : (κs : Lfts 6) (a : Dens κs copy-kinds.ps) (z : (res_t copy-kinds.r κs).Denot) (s : AtExit (ended_of 6 copy-kinds.ps copy-kinds.r) κs)
     → copy.Post κs a z s → z.answer.why ≡ Accepted
-    → Call·met finish_copy (copy-in κs a) z.answer (copy-out κs a z s)
+    → CallMet finish_copy (copy-in κs a) z.answer (copy-out κs a z s)
 copy_met κs a z s p e = record { does = p.0; accepted = e; state = refl }
 
 -- a finish
@@ -259,7 +259,7 @@ finish-out κs a z s = record {
 
 pub finish-met : (κs : Lfts 6) (a : Dens κs finish-kinds.ps) (z : (res_t finish-kinds.r κs).Denot)
     (s : AtExit (ended_of 6 finish-kinds.ps finish-kinds.r) κs) → ends.Post κs a z s → z.answer.why ≡ Accepted
-    → Call·met finish (finish-in κs a) z.answer (finish-out κs a z s)
+    → CallMet finish (finish-in κs a) z.answer (finish-out κs a z s)
 finish-met κs a z s p e = record { does = p.0; accepted = e; state = refl }
 
 -- an accepted start: its state and its places, with slices of any content, are the builder that runs start from

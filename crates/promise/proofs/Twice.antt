@@ -12,11 +12,11 @@ use Rattle.column.specs.declared.Column.{Column}
 use Rattle.column.specs.Lent.{Lent}
 use Rattle.column.specs.Meaning.{row_view, blocks_of, shown_at}
 use Rattle.showing.specs.Stores.{get_d_rows, rows_same}
-use Rattle.showing.specs.Shows.{shows-row}
+use Rattle.showing.proofs.ShowsLaws.{shows-row}
 use Rattle.laying.specs.WrittenLaws.{length-records, records}
 use Rattle.compaction.specs.Cut.{cut_lens}
 use Rattle.compaction.specs.Compact.{long_of, row_shown, new_view, new_lens, why_compact, compacted, compact_column}
-use Rattle.compaction.specs.LaidLaws.{view-short, view-long}
+use Rattle.compaction.proofs.LaidLaws.{view-short, view-long}
 use Rattle.compaction.proofs.Kept.{fills, blocks_out}
 use Rattle.compaction.proofs.Compacted.{room, old_row, views-back, blocks-back, compacted-alike, compacted-shows}
 use Rattle.compaction.proofs.Bound.{row_back}

@@ -22,7 +22,7 @@ abbrev pub held_in : Slices → Builder
 held_in h = held h.state h.views h.bytes h.starts h.lens h.nulls h.places
 
 -- a call's contract, met by what it answers and the slices that it leaves; the state that it answers is the next call's
-pub record Call·met (c : Call) (h : Slices) (r : Answer) (h' : Slices) : Type 0 where
+pub record CallMet (c : Call) (h : Slices) (r : Answer) (h' : Slices) : Type 0 where
   pub does : Does (why c) (put c) h.state h.views h.bytes h.starts h.lens h.nulls h.places
       r h'.views h'.bytes h'.starts h'.lens h'.nulls h'.places
   pub accepted : r.why ≡ Accepted
@@ -30,7 +30,7 @@ pub record Call·met (c : Call) (h : Slices) (r : Answer) (h' : Slices) : Type 0
 
 pub data Coded : List Call → Slices → Slices → Type 0 where
   none : {h : Slices} → Coded [] h h
-  more : {c : Call} {cs : List Call} {h h' e : Slices} (r : Answer) → Call·met c h r h' → Coded cs h' e → Coded (c ∷ cs) h e
+  more : {c : Call} {cs : List Call} {h h' e : Slices} (r : Answer) → CallMet c h r h' → Coded cs h' e → Coded (c ∷ cs) h e
 
 -- what functions that meet their contracts do is a run, so all that is said of runs is said of them
 pub record Codes : Type 0 where

@@ -1,1 +1,3 @@
 pub mod AddLaws
+pub mod ScanLaws
+pub mod SaysLaws

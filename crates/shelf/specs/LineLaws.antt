@@ -7,11 +7,11 @@ use Rattle.std.proofs.Math.Numerals.{add-one}
 use Rattle.std.proofs.Math.ListN.{length, length-take}
 use Rattle.std.proofs.Math.Seq.{take-length}
 use Rattle.basis.specs.Pick.{pick}
-use Rattle.bytes.specs.Bytes.{index_of, index_after, slice}
+use Rattle.shelf.specs.Scan.{index_of, index_after, slice}
 use Rattle.shelf.specs.Lines.{on_first, lines, code_mark, null_mark, says, is_bad_line, first_bad_line}
 use Rattle.shelf.specs.declared.Line.TheVariants.{Code, Null, Bad}
 use Rattle.order.specs.Order.{same}
-use Rattle.order.specs.OrderLaws.{same-no}
+use Rattle.order.proofs.OrderLaws.{same-no}
 
 first-line : (l : List ℕ) → 0 < length l → lines l ≡ take (index_of 10 l) l ∷ lines (drop (suc (index_of 10 l)) l)
 unfolding lines on_first index_of index_after
@@ -74,25 +74,3 @@ module _ (n : ℕ) (l : List ℕ) (ls : List (List ℕ)) where
 pub bad-none : (n : ℕ) → first_bad_line n [] ≡ 0
 unfolding first_bad_line
 bad-none n = refl
-
--- ---- what a line says, test by test
-
-module _ (l : List ℕ) where
-  pub says-short : length l < 5 → Bad ≡ says l
-  unfolding says
-  says-short h =
-      let a : same (take 5 l) code_mark ≡ false = same-no (take 5 l) code_mark (λ e. let k = ap length e in absurd (omega (arith, simp length-take at k))) in
-      let b : same l null_mark ≡ false = same-no l null_mark (λ e. let k = ap length e in absurd (omega arith)) in
-      rw (a, b)
-
-  pub says-code : same (take 5 l) code_mark ≡ true → Code ≡ says l
-  unfolding says
-  says-code h = rw h
-
-  pub says-null : same (take 5 l) code_mark ≡ false → same l null_mark ≡ true → Null ≡ says l
-  unfolding says
-  says-null h g = rw (h, g)
-
-  pub says-bad : same (take 5 l) code_mark ≡ false → same l null_mark ≡ false → Bad ≡ says l
-  unfolding says
-  says-bad h g = rw (h, g)

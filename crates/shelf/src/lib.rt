@@ -2,7 +2,7 @@
 #![tactic(auto)]
 
 ghost use Rattle.std.specs.Prelude.{◌≡◌, ◌+◌, ◌-◌, ◌≤◌, ◌<◌, min, length, drop};
-ghost use Rattle.bytes.specs.Bytes.{index_of, slice};
+ghost use Rattle.shelf.specs.Scan.{index_of, slice};
 ghost use Rattle.column.specs.Lent.{lent};
 ghost use Rattle.builder.specs.State.{held};
 ghost use Rattle.shelf.specs.Lines.{lines, first_bad_line};

@@ -4,7 +4,7 @@ use Rattle.std.proofs.Common.{ap, ◌∙◌, arith, leb-true, leb-false, length-
 use Rattle.basis.specs.Pick.{pick}
 use Rattle.shelf.specs.declared.Line.TheVariants.{Bad}
 use Rattle.shelf.specs.Lines.{on_first, lines, says, is_bad_line, value_of, first_bad_line}
-use Rattle.shelf.specs.LineLaws.{says-short}
+use Rattle.shelf.proofs.SaysLaws.{says-short}
 use Rattle.whole.specs.Answer.{input_most}
 
 -- the bytes of lines with their line ends

@@ -15,8 +15,8 @@ put_line-c-requires c =
       c.requires,
       c.put_bytes-a.ensures.ends,
       c.put_bytes-a.ensures.same,
-      c.put_line-b.ensures.1,
-      c.put_line-b.ensures.0.same,
+      c.put_line-b.ensures.upper_bound,
+      c.put_line-b.ensures.put.same,
     )
 
 pub put_line-d-requires : goal.put_line-d-requires
@@ -26,10 +26,10 @@ put_line-d-requires c =
       c.requires,
       c.put_bytes-a.ensures.ends,
       c.put_bytes-a.ensures.same,
-      c.put_line-b.ensures.1,
-      c.put_line-b.ensures.0.same,
-      c.put_line-c.ensures.1,
-      c.put_line-c.ensures.0.same,
+      c.put_line-b.ensures.upper_bound,
+      c.put_line-b.ensures.put.same,
+      c.put_line-c.ensures.upper_bound,
+      c.put_line-c.ensures.put.same,
     )
 
 pub put_line-e-requires : goal.put_line-e-requires
@@ -39,12 +39,12 @@ put_line-e-requires c =
       c.requires,
       c.put_bytes-a.ensures.ends,
       c.put_bytes-a.ensures.same,
-      c.put_line-b.ensures.1,
-      c.put_line-b.ensures.0.same,
-      c.put_line-c.ensures.1,
-      c.put_line-c.ensures.0.same,
-      c.put_line-d.ensures.1,
-      c.put_line-d.ensures.0.same,
+      c.put_line-b.ensures.upper_bound,
+      c.put_line-b.ensures.put.same,
+      c.put_line-c.ensures.upper_bound,
+      c.put_line-c.ensures.put.same,
+      c.put_line-d.ensures.upper_bound,
+      c.put_line-d.ensures.put.same,
     )
 
 pub put_line-requires : goal.put_line-requires
@@ -54,29 +54,29 @@ put_line-requires c =
       c.requires,
       c.put_bytes-a.ensures.ends,
       c.put_bytes-a.ensures.same,
-      c.put_line-b.ensures.1,
-      c.put_line-b.ensures.0.same,
-      c.put_line-c.ensures.1,
-      c.put_line-c.ensures.0.same,
-      c.put_line-d.ensures.1,
-      c.put_line-d.ensures.0.same,
-      c.put_line-e.ensures.1,
-      c.put_line-e.ensures.0.same,
+      c.put_line-b.ensures.upper_bound,
+      c.put_line-b.ensures.put.same,
+      c.put_line-c.ensures.upper_bound,
+      c.put_line-c.ensures.put.same,
+      c.put_line-d.ensures.upper_bound,
+      c.put_line-d.ensures.put.same,
+      c.put_line-e.ensures.upper_bound,
+      c.put_line-e.ensures.put.same,
     )
 
 pub returns : goal.returns
 unfolding closing
 returns c =
-    let p = put-put c.put_bytes-a.ensures (put-put c.put_line-b.ensures.0 (put-put c.put_line-c.ensures.0
-    (put-put c.put_line-d.ensures.0 (put-put c.put_line-e.ensures.0 c.put_line.ensures.0)))) in
+    let p = put-put c.put_bytes-a.ensures (put-put c.put_line-b.ensures.put (put-put c.put_line-c.ensures.put
+    (put-put c.put_line-d.ensures.put (put-put c.put_line-e.ensures.put c.put_line.ensures.put)))) in
     put_holds p (omega (
       arith,
       p.ends,
       c.requires,
       c.put_bytes-a.ensures.ends,
-      c.put_line-b.ensures.1,
-      c.put_line-c.ensures.1,
-      c.put_line-d.ensures.1,
-      c.put_line-e.ensures.1,
-      c.put_line.ensures.1,
+      c.put_line-b.ensures.upper_bound,
+      c.put_line-c.ensures.upper_bound,
+      c.put_line-d.ensures.upper_bound,
+      c.put_line-e.ensures.upper_bound,
+      c.put_line.ensures.upper_bound,
     ))

@@ -29,5 +29,5 @@ put-requires c =
 pub returns : goal.returns
 unfolding number_line
 returns c =
-    let p = put-put c.put_bytes-b.ensures (put-put c.put_number-c.ensures
-    c.put.ensures) in (p, omega (arith, p.ends, line-fits c.args.name.now c.args.n (omega (arith, c.ranges.n))))
+    let p = put-put c.put_bytes-b.ensures (put-put c.put_number-c.ensures c.put.ensures) in
+    record { put = p; upper_bound = omega (arith, p.ends, line-fits c.args.name.now c.args.n (omega (arith, c.ranges.n))) }

@@ -6,9 +6,9 @@ use Rattle.listing.proofs.put_refused.Goals as goal
 
 pub returns : goal.returns
 unfolding refused_line
-returns c = put_holds c.put_line.ensures.0 (omega (
+returns c = put_holds c.put_line.ensures.put (omega (
   arith,
   c.requires,
-  c.put_line.ensures.0.ends,
-  c.put_line.ensures.1,
+  c.put_line.ensures.put.ends,
+  c.put_line.ensures.upper_bound,
 ))

@@ -15,5 +15,5 @@ returns-then-x-at c =
 pub returns : goal.returns
 returns c =
     wrote-bytes _ _ _ (omega (arith, c.if-rows-k.false)) _ _
-    c.value-x.ensures.0 c.part_end-to.ensures.1.0
-    c.part_end-to.ensures.1.1 (put_holds c.put_bytes-2.ensures (search rules))
+    c.value-x.ensures.0 c.part_end-to.ensures.lower_bound.0
+    c.part_end-to.ensures.lower_bound.1 (put_holds c.put_bytes-2.ensures (search rules))

@@ -7,5 +7,5 @@ use Rattle.marking.proofs.put_tally.Goals as goal
 pub returns : goal.returns
 unfolding tally_lines
 returns c =
-    let p = put-put c.put_line-a.ensures.0 (put-put c.put_line-b.ensures.0 (put-put c.put_line-c.ensures.0 c.put_line.ensures.0)) in
-    put_holds p (omega (arith, p.ends, c.put_line-a.ensures.1, c.put_line-b.ensures.1, c.put_line-c.ensures.1, c.put_line.ensures.1))
+    let p = put-put c.put_line-a.ensures.put (put-put c.put_line-b.ensures.put (put-put c.put_line-c.ensures.put c.put_line.ensures.put)) in
+    put_holds p (omega (arith, p.ends, c.put_line-a.ensures.upper_bound, c.put_line-b.ensures.upper_bound, c.put_line-c.ensures.upper_bound, c.put_line.ensures.upper_bound))

@@ -26,22 +26,22 @@ after-at-requires c =
 
 pub loop-at-smaller : goal.loop-at-smaller
 loop-at-smaller c =
-    omega (arith, c.line_end-e.ensures.1, c.line_end-e.ensures.2, c.after-at.ensures.1, c.after-at.ensures.4, c.loop-at-test.taken)
+    omega (arith, c.line_end-e.ensures.1, c.line_end-e.ensures.2, c.after-at.ensures.1, c.after-at.ensures.4, c.loop-at-test.true)
 
 pub loop-at-preserved : goal.loop-at-preserved
 loop-at-preserved c =
     let i = c.args.input.now in let k = line-next i c.loop-at.at c.line_end-e.result c.after-at.result c.loop-at-test.true
     c.line_end-e.ensures.0 c.after-at.ensures.2 c.after-at.ensures.3 in (
       c.after-at.ensures.1,
-      c.turn-s.auto.1.0
+      c.turn-s.auto.views
           ∙ c.loop-at.invariant.1,
-      c.turn-s.auto.1.1.0 ∙ c.loop-at.invariant.2,
-      c.turn-s.auto.1.1.1.0
+      c.turn-s.auto.bytes ∙ c.loop-at.invariant.2,
+      c.turn-s.auto.starts
           ∙ c.loop-at.invariant.3,
-      c.turn-s.auto.1.1.1.1.0 ∙ c.loop-at.invariant.4,
-      c.turn-s.auto.1.1.1.1.1.0
+      c.turn-s.auto.lens ∙ c.loop-at.invariant.4,
+      c.turn-s.auto.nulls
           ∙ c.loop-at.invariant.5,
-      c.turn-s.auto.1.1.1.1.1.1.0 ∙ c.loop-at.invariant.6,
+      c.turn-s.auto.places ∙ c.loop-at.invariant.6,
       ap (added_all (lines (drop c.after-at.result i)))
           c.turn-s.ensures ∙ (sym (added_next _ _ _)
           ∙ (ap (λ (z : List (List ℕ)). added_all z (held c.loop-at.s c.loop-at.views c.loop-at.bytes c.loop-at.starts c.loop-at.lens

@@ -1,4 +1,4 @@
-use Rattle.shelf.specs.LineLaws.{says-short, says-code, says-null, says-bad}
+use Rattle.shelf.proofs.SaysLaws.{says-short, says-code, says-null, says-bad}
 use mathlib.Core.Path.{sym, ◌∙◌}
 use borrow.Author.Rules.{rules}
 use Rattle.shelf.proofs.says.Goals as goal

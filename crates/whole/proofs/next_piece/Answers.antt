@@ -3,7 +3,7 @@ use borrow.Author.Rules.{rules}
 use Rattle.whole.proofs.next_piece.Goals as goal
 
 pub returns-in-Refused : goal.returns-in-Refused
-returns-in-Refused c = at-refused _ _ _ _ c.in-Refused.is c.Put-refused.ensures
+returns-in-Refused c = at-refused _ _ _ _ c.in-Refused.is c.put_refused.ensures
 
 pub returns-in-Opening : goal.returns-in-Opening
 returns-in-Opening c = at-opening _ _ _ c.in-Opening.is c.put_opening.ensures

@@ -20,4 +20,4 @@ returns c =
     wrote-part _ _ _
     (omega (arith, c.items.ensures, c.if-items-k.false))
     _ _ _ (c.item_value-x.ensures ∙ ap (item_value _ _) c.nth_item.ensures)
-    c.part_end-to.ensures.1.0 c.part_end-to.ensures.1.1 c.row_part.ensures
+    c.part_end-to.ensures.lower_bound.0 c.part_end-to.ensures.lower_bound.1 c.row_part.ensures

@@ -16,13 +16,13 @@ use Rattle.column.specs.declared.Spot.{Spot}
 use Rattle.column.specs.declared.Spot.TheVariants as spot
 use Rattle.column.specs.Lent.{Lent, lent, fits}
 use Rattle.column.specs.Room.{bare}
-use Rattle.column.specs.FitLaws.{and_no}
+use Rattle.column.proofs.FitLaws.{and_no}
 use Rattle.column.specs.Meaning.{row_view, blocks_of, shown}
 use Rattle.column.specs.Spot.{spot_in, bytes_at}
 use Rattle.column.specs.Truth.{reachable_at}
 use Rattle.reading.specs.Reading.{why_reach, why_value, located_by, located_bytes, value_at}
-use Rattle.reading.specs.ReadingLaws.{value-reach, value-reached}
-use Rattle.reading.specs.LocatedLaws.{located-is, located-bytes}
+use Rattle.reading.proofs.ReadingLaws.{value-reach, value-reached}
+use Rattle.reading.proofs.LocatedLaws.{located-is, located-bytes}
 use Rattle.comparison.specs.declared.ByViews.{ByViews}
 use Rattle.comparison.specs.declared.Compared.{Compared}
 use Rattle.comparison.specs.declared.Verdict.TheVariants as verdict

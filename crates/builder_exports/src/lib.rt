@@ -158,12 +158,7 @@ pub fn tell(a: Answer, state: &mut [usize; 11]) -> u64
 }
 
 // A builder started: its state's numbers, and the merge table emptied where it is used.
-#[unsafe(no_mangle)]
-pub extern "C" fn tambuyeel_start(
-    settings: &[usize; 5],
-    state: &mut [usize; 11],
-    places: &mut [u32],
-) -> u64
+pub fn tambuyeel_start(settings: &[usize; 5], state: &mut [usize; 11], places: &mut [u32]) -> u64
     ensures { (result ≡ why_number (why_start (settings_of settings.now)))
         × (state.new ≡ if_accepted (why_start (settings_of settings.now)) (numbers_of (started (settings_of settings.now)))
         state.old)
@@ -174,8 +169,7 @@ pub extern "C" fn tambuyeel_start(
 }
 
 // A value is added.
-#[unsafe(no_mangle)]
-pub extern "C" fn tambuyeel_append_value(
+pub fn tambuyeel_append_value(
     state: &mut [usize; 11],
     views: &mut [u8],
     bytes: &mut [u8],
@@ -217,8 +211,7 @@ pub fn tambuyeel_append_values(
 }
 
 // A null row is added.
-#[unsafe(no_mangle)]
-pub extern "C" fn tambuyeel_append_null(
+pub fn tambuyeel_append_null(
     state: &mut [usize; 11],
     views: &mut [u8],
     bytes: &[u8],
@@ -237,8 +230,7 @@ pub extern "C" fn tambuyeel_append_null(
 }
 
 // A block is added whole, after the open one, if any, is completed; its number.
-#[unsafe(no_mangle)]
-pub extern "C" fn tambuyeel_append_block(
+pub fn tambuyeel_append_block(
     state: &mut [usize; 11],
     views: &[u8],
     bytes: &mut [u8],
@@ -267,8 +259,7 @@ pub extern "C" fn tambuyeel_append_block(
 }
 
 // A row is added that shows n bytes at an offset of a completed block.
-#[unsafe(no_mangle)]
-pub extern "C" fn tambuyeel_append_view(
+pub fn tambuyeel_append_view(
     state: &mut [usize; 11],
     views: &mut [u8],
     bytes: &[u8],
@@ -292,8 +283,7 @@ pub extern "C" fn tambuyeel_append_view(
 }
 
 // A column is added: the open block, if any, is completed, the column's blocks are copied whole.
-#[unsafe(no_mangle)]
-pub extern "C" fn tambuyeel_append_column<'a>(
+pub fn tambuyeel_append_column<'a>(
     state: &mut [usize; 11],
     views: &mut [u8],
     bytes: &mut [u8],
@@ -340,8 +330,7 @@ pub extern "C" fn tambuyeel_append_column<'a>(
 }
 
 // Which bytes of which buffer a row's value is while it is built.
-#[unsafe(no_mangle)]
-pub extern "C" fn tambuyeel_get_value(
+pub fn tambuyeel_get_value(
     state: &[usize; 11],
     views: &[u8],
     bytes: &[u8],
@@ -370,8 +359,7 @@ pub extern "C" fn tambuyeel_get_value(
 }
 
 // The column that was built; rows, blocks and merge table are emptied, and the growth size is kept.
-#[unsafe(no_mangle)]
-pub extern "C" fn tambuyeel_finish(
+pub fn tambuyeel_finish(
     state: &mut [usize; 11],
     views: &[u8],
     bytes: &[u8],
@@ -399,8 +387,7 @@ pub extern "C" fn tambuyeel_finish(
 }
 
 // The column so far, the open block's record written; the builder goes on in the same buffers.
-#[unsafe(no_mangle)]
-pub extern "C" fn tambuyeel_finish_by_copy(
+pub fn tambuyeel_finish_by_copy(
     state: &mut [usize; 11],
     views: &[u8],
     bytes: &[u8],

@@ -16,13 +16,13 @@ use Rattle.column.specs.declared.Spot.{Spot}
 use Rattle.column.specs.declared.Spot.TheVariants as spot
 use Rattle.column.specs.Lent.{Lent, buffers, block_at, data_room}
 use Rattle.column.specs.Spot.{spot_in, bytes_at, Lies}
-use Rattle.column.specs.FitLaws.{fits-limit}
-use Rattle.column.specs.SpotLaws.{Stood, in-views, in-data, no_block, outside, stood}
+use Rattle.column.proofs.FitLaws.{fits-limit}
+use Rattle.column.proofs.SpotLaws.{Stood, in-views, in-data, no_block, outside, stood}
 use Rattle.reading.specs.declared.Located.{Located}
 use Rattle.reading.specs.declared.Located.TheVariants as located
 use Rattle.reading.specs.Reading.{why_value, located_by, located_at, value_at, located_bytes, LiesAt}
-use Rattle.reading.specs.ReadingLaws.{value-readable}
-use Rattle.reading.specs.LocatedLaws.{located-lies, located-bytes}
+use Rattle.reading.proofs.ReadingLaws.{value-readable}
+use Rattle.reading.proofs.LocatedLaws.{located-lies, located-bytes}
 use Rattle.numbers.specs.declared.Place.{Place}
 use Rattle.numbers.specs.Numbers.{place_of}
 use Rattle.exports.specs.Exported.{place_told, place_at, named}

@@ -65,8 +65,7 @@ fn told_same(s: Sameness) -> Told
 }
 
 // 0 where the row's value can be read, else the refusal's number.
-#[unsafe(no_mangle)]
-pub extern "C" fn tambuyeel_why_value(
+pub fn tambuyeel_why_value(
     views: &[u8],
     bytes: &[u8],
     starts: &[usize],
@@ -90,8 +89,7 @@ pub extern "C" fn tambuyeel_why_value(
 }
 
 // 0 where the column is valid, else the refusal's number, with the row that it names.
-#[unsafe(no_mangle)]
-pub extern "C" fn tambuyeel_check<'a>(
+pub fn tambuyeel_check<'a>(
     views: &'a [u8],
     bytes: &'a [u8],
     starts: &[usize],
@@ -113,8 +111,7 @@ pub extern "C" fn tambuyeel_check<'a>(
 }
 
 // Row i of one column against row j of another: 0 below, 1 equal, 2 above; refused, the number and 16 on the left, 32 on the right.
-#[unsafe(no_mangle)]
-pub extern "C" fn tambuyeel_compare<'a>(
+pub fn tambuyeel_compare<'a>(
     views: &'a [u8],
     bytes: &'a [u8],
     starts: &[usize],
@@ -142,8 +139,7 @@ pub extern "C" fn tambuyeel_compare<'a>(
 }
 
 // 1 where two columns are the same, 0 where they aren't; refused, the number and 16 on the left, 32 on the right, with the row that it names.
-#[unsafe(no_mangle)]
-pub extern "C" fn tambuyeel_same_column<'a>(
+pub fn tambuyeel_same_column<'a>(
     views: &'a [u8],
     bytes: &'a [u8],
     starts: &[usize],
@@ -183,8 +179,7 @@ pub fn told_place(l: Located) -> Place
 }
 
 // Which bytes of which buffer a row's value is.
-#[unsafe(no_mangle)]
-pub extern "C" fn tambuyeel_value(
+pub fn tambuyeel_value(
     views: &[u8],
     bytes: &[u8],
     starts: &[usize],

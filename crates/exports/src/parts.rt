@@ -62,8 +62,7 @@ fn told_slice(s: Sliced) -> Run
 }
 
 // The length of a row's value.
-#[unsafe(no_mangle)]
-pub extern "C" fn tambuyeel_length(
+pub fn tambuyeel_length(
     views: &[u8],
     bytes: &[u8],
     starts: &[usize],
@@ -87,8 +86,7 @@ pub extern "C" fn tambuyeel_length(
 }
 
 // 1 where a row is valid, 0 where it is null.
-#[unsafe(no_mangle)]
-pub extern "C" fn tambuyeel_null_bit(
+pub fn tambuyeel_null_bit(
     views: &[u8],
     bytes: &[u8],
     starts: &[usize],
@@ -112,8 +110,7 @@ pub extern "C" fn tambuyeel_null_bit(
 }
 
 // How many of the rows from `start` on, `count` of them, are null.
-#[unsafe(no_mangle)]
-pub extern "C" fn tambuyeel_null_run(
+pub fn tambuyeel_null_run(
     views: &[u8],
     bytes: &[u8],
     starts: &[usize],
@@ -139,8 +136,7 @@ pub extern "C" fn tambuyeel_null_run(
 }
 
 // The rows from `start` on, `count` of them: the first row and the rows of a column that is otherwise the same.
-#[unsafe(no_mangle)]
-pub extern "C" fn tambuyeel_slice(
+pub fn tambuyeel_slice(
     views: &[u8],
     bytes: &[u8],
     starts: &[usize],
@@ -166,8 +162,7 @@ pub extern "C" fn tambuyeel_slice(
 }
 
 // The lengths of the rows that aren't null, short and long.
-#[unsafe(no_mangle)]
-pub extern "C" fn tambuyeel_total_bytes_len(
+pub fn tambuyeel_total_bytes_len(
     views: &[u8],
     bytes: &[u8],
     starts: &[usize],
@@ -189,8 +184,7 @@ pub extern "C" fn tambuyeel_total_bytes_len(
 }
 
 // The lengths of the long rows, null ones too.
-#[unsafe(no_mangle)]
-pub extern "C" fn tambuyeel_total_buffer_bytes_used(
+pub fn tambuyeel_total_buffer_bytes_used(
     views: &[u8],
     bytes: &[u8],
     starts: &[usize],
@@ -212,8 +206,7 @@ pub extern "C" fn tambuyeel_total_buffer_bytes_used(
 }
 
 // Which bytes of which buffer the first n bytes of a row's value are; none where it has fewer.
-#[unsafe(no_mangle)]
-pub extern "C" fn tambuyeel_prefix(
+pub fn tambuyeel_prefix(
     views: &[u8],
     bytes: &[u8],
     starts: &[usize],
@@ -245,8 +238,7 @@ pub extern "C" fn tambuyeel_prefix(
 }
 
 // Which bytes of which buffer the last n bytes of a row's value are; none where it has fewer.
-#[unsafe(no_mangle)]
-pub extern "C" fn tambuyeel_suffix(
+pub fn tambuyeel_suffix(
     views: &[u8],
     bytes: &[u8],
     starts: &[usize],

@@ -45,8 +45,7 @@ pub fn records(starts: &[usize], lens: &[usize]) -> usize {
 }
 
 // A value is added.
-#[unsafe(no_mangle)]
-pub extern "C" fn records_append_value(
+pub fn records_append_value(
     state: &mut [usize; 11],
     views: &mut [u8],
     bytes: &mut [u8],
@@ -72,8 +71,7 @@ pub extern "C" fn records_append_value(
 }
 
 // A value is added n times.
-#[unsafe(no_mangle)]
-pub extern "C" fn records_append_values(
+pub fn records_append_values(
     state: &mut [usize; 11],
     views: &mut [u8],
     bytes: &mut [u8],
@@ -100,8 +98,7 @@ pub extern "C" fn records_append_values(
 }
 
 // A null is added.
-#[unsafe(no_mangle)]
-pub extern "C" fn records_append_null(
+pub fn records_append_null(
     state: &mut [usize; 11],
     views: &mut [u8],
     bytes: &[u8],
@@ -120,8 +117,7 @@ pub extern "C" fn records_append_null(
 }
 
 // A block is added; its number.
-#[unsafe(no_mangle)]
-pub extern "C" fn records_append_block(
+pub fn records_append_block(
     state: &mut [usize; 11],
     views: &[u8],
     bytes: &mut [u8],
@@ -155,8 +151,7 @@ pub extern "C" fn records_append_block(
 }
 
 // A view of a completed block is added.
-#[unsafe(no_mangle)]
-pub extern "C" fn records_append_view(
+pub fn records_append_view(
     state: &mut [usize; 11],
     views: &mut [u8],
     bytes: &[u8],
@@ -180,8 +175,7 @@ pub extern "C" fn records_append_view(
 }
 
 // A column is added, with the row that its refusal names.
-#[unsafe(no_mangle)]
-pub extern "C" fn records_append_column<'a>(
+pub fn records_append_column<'a>(
     state: &mut [usize; 11],
     views: &mut [u8],
     bytes: &mut [u8],
@@ -234,8 +228,7 @@ pub extern "C" fn records_append_column<'a>(
 }
 
 // The column that was built.
-#[unsafe(no_mangle)]
-pub extern "C" fn records_finish(
+pub fn records_finish(
     state: &mut [usize; 11],
     views: &[u8],
     bytes: &[u8],
@@ -263,8 +256,7 @@ pub extern "C" fn records_finish(
 }
 
 // The column so far.
-#[unsafe(no_mangle)]
-pub extern "C" fn records_finish_by_copy(
+pub fn records_finish_by_copy(
     state: &mut [usize; 11],
     views: &[u8],
     bytes: &[u8],
@@ -292,8 +284,7 @@ pub extern "C" fn records_finish_by_copy(
 }
 
 // 0 where a row's value while it is built can be read, else the refusal's number.
-#[unsafe(no_mangle)]
-pub extern "C" fn records_why_get<'a>(
+pub fn records_why_get<'a>(
     state: &[usize; 11],
     views: &'a [u8],
     bytes: &'a [u8],
@@ -313,8 +304,7 @@ pub extern "C" fn records_why_get<'a>(
 }
 
 // 1 where a row's value while it is built is `want`, else 0.
-#[unsafe(no_mangle)]
-pub extern "C" fn records_get_value_is<'a>(
+pub fn records_get_value_is<'a>(
     state: &[usize; 11],
     views: &'a [u8],
     bytes: &'a [u8],
@@ -337,8 +327,7 @@ pub extern "C" fn records_get_value_is<'a>(
 }
 
 // 0 where a row's value can be read, else the refusal's number.
-#[unsafe(no_mangle)]
-pub extern "C" fn records_why_value<'a>(
+pub fn records_why_value<'a>(
     views: &'a [u8],
     bytes: &'a [u8],
     starts: &[usize],
@@ -357,8 +346,7 @@ pub extern "C" fn records_why_value<'a>(
 }
 
 // 1 where a row's value is `want`, else 0.
-#[unsafe(no_mangle)]
-pub extern "C" fn records_value_is<'a>(
+pub fn records_value_is<'a>(
     views: &'a [u8],
     bytes: &'a [u8],
     starts: &[usize],
@@ -380,8 +368,7 @@ pub extern "C" fn records_value_is<'a>(
 }
 
 // The row walk set to a row, and a step of it whose value has to be `want`: the refusal's number or 0, and the place after it.
-#[unsafe(no_mangle)]
-pub extern "C" fn records_walk<'a>(
+pub fn records_walk<'a>(
     views: &'a [u8],
     bytes: &'a [u8],
     starts: &[usize],
@@ -414,8 +401,7 @@ pub extern "C" fn records_walk<'a>(
 }
 
 // 0 where the column is valid, else the refusal's number, with the row that it names.
-#[unsafe(no_mangle)]
-pub extern "C" fn records_check<'a>(
+pub fn records_check<'a>(
     views: &'a [u8],
     bytes: &'a [u8],
     starts: &[usize],
@@ -432,8 +418,7 @@ pub extern "C" fn records_check<'a>(
 }
 
 // Row i of one column against row j of another, by exports' numbers.
-#[unsafe(no_mangle)]
-pub extern "C" fn records_compare<'a>(
+pub fn records_compare<'a>(
     views: &'a [u8],
     bytes: &'a [u8],
     starts: &[usize],
@@ -465,8 +450,7 @@ pub extern "C" fn records_compare<'a>(
 }
 
 // A column is written anew, with the row that its refusal names.
-#[unsafe(no_mangle)]
-pub extern "C" fn records_compact<'a>(
+pub fn records_compact<'a>(
     views: &'a [u8],
     bytes: &'a [u8],
     starts: &[usize],

@@ -5,7 +5,7 @@ use Prim.Native.Nat.{ℕ}
 use borrow.Author.Tests.{eq-eqb, ne_eqb}
 use lib.ListN.{length}
 use Rattle.utf8.specs.Table.{first_bad}
-use Rattle.utf8.specs.First.{formed-end}
+use Rattle.utf8.proofs.First.{formed-end}
 use Rattle.text_exports.specs.declared.Text.{Text}
 use Rattle.text_exports.specs.Told.{text_of}
 

@@ -1,9 +1,9 @@
 -- `batches::count_less` meets its contract. The invariant: the rows passed are counted, and it is known whether the next one is reachable. Assumes nothing.
 use Rattle.std.proofs.Common.{◌≡◌, ◌-◌, ◌≤◌, sym, ◌∙◌, arith, rules}
 use Rattle.bounds.specs.Bounds.{row-limit-small}
-use Rattle.column.specs.FitLaws.{fits_gives, fits-listed}
+use Rattle.column.proofs.FitLaws.{fits_gives, fits-listed}
 use Rattle.column.specs.Lent.{lent}
-use Rattle.column.specs.SpotLaws.{found-reach}
+use Rattle.column.proofs.SpotLaws.{found-reach}
 use Rattle.column.specs.Truth.{reachable_at}
 use Rattle.batches.specs.Batches.{less_rows}
 use Rattle.batches.proofs.Laws.{less_none, less-more, no_rows}

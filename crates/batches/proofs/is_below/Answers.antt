@@ -2,7 +2,7 @@
 use Rattle.std.proofs.Common.{sym, ◌∙◌, arith, rules}
 use borrow.Author.Tests.{not-true, not-false}
 use Rattle.bounds.specs.Bounds.{row-limit-small}
-use Rattle.column.specs.FitLaws.{fits_gives}
+use Rattle.column.proofs.FitLaws.{fits_gives}
 use Rattle.comparison.specs.VerdictLaws.{readable}
 use Rattle.batches.proofs.Laws.{left-unreached, right-unreached, both-less, next-readable, next-order}
 use Rattle.batches.proofs.is_below.Goals as goal

@@ -1,8 +1,8 @@
 -- `batches::spot_of` meets its contract. Assumes nothing.
 use Rattle.std.proofs.Common.{◌∙◌, arith}
 use Rattle.bounds.specs.Bounds.{row-limit-small}
-use Rattle.column.specs.FitLaws.{fits_gives, fits-row}
-use Rattle.column.specs.ReachLaws.{spot-bare}
+use Rattle.column.proofs.FitLaws.{fits_gives, fits-row}
+use Rattle.column.proofs.ReachLaws.{spot-bare}
 use Rattle.batches.proofs.spot_of.Goals as goal
 
 pub overflow_add-c : goal.overflow_add-c

@@ -1,8 +1,8 @@
 -- `batches::taste_all` meets its contract. The invariant: the values passed are added up. Assumes nothing.
 use Rattle.std.proofs.Common.{◌≡◌, ◌-◌, ◌≤◌, sym, ap, ◌∙◌, arith}
-use Rattle.column.specs.FitLaws.{fits-listed, fits-view}
+use Rattle.column.proofs.FitLaws.{fits-listed, fits-view}
 use Rattle.column.specs.Lent.{lent}
-use Rattle.column.specs.SpotLaws.{found-lies}
+use Rattle.column.proofs.SpotLaws.{found-lies}
 use Rattle.batches.specs.Batches.{taste_rows}
 use Rattle.batches.proofs.Laws.{taste-first, taste-more, spot-value}
 use Rattle.batches.proofs.taste_all.Given as goal

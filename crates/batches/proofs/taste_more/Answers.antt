@@ -2,7 +2,7 @@
 use Rattle.std.proofs.Common.{ap, arith, rules}
 use Rattle.bounds.specs.Bounds.{byte-limit-small}
 use Rattle.column.specs.declared.Spot.{Spot}
-use Rattle.column.specs.SpotLaws.{lies-view, lies-data, view-bytes, data-bytes, no_bytes}
+use Rattle.column.proofs.SpotLaws.{lies-view, lies-data, view-bytes, data-bytes, no_bytes}
 use Rattle.column.specs.Truth.{reach_by, is_inside}
 use Rattle.batches.proofs.Laws.{taste-added, taste-nothing}
 use Rattle.batches.proofs.taste_more.Goals as goal
@@ -15,7 +15,7 @@ slice_bounds-taste-end c = let h = lies-view _ _ _ _ _ c.in-View.is c.requires i
 
 pub returns-in-View : goal.returns-in-View
 returns-in-View c =
-    taste-added _ _ _ _ _ c.wrapping_add_u64.ensures c.taste.ensures
+    taste-added _ _ _ _ _ c.wrapping_add_u64.ensures.value c.taste.ensures
     (view-bytes _ _ _ _ _ c.in-View.is)
 
 pub overflow_add-e-in-Data : goal.overflow_add-e-in-Data
@@ -26,7 +26,7 @@ slice_bounds-taste-end-in-Data c = let h = lies-data _ _ _ _ _ c.in-Data.is c.re
 
 pub returns-in-Data : goal.returns-in-Data
 returns-in-Data c =
-    taste-added _ _ _ _ _ c.wrapping_add_u64-in-Data.ensures c.taste-in-Data.ensures
+    taste-added _ _ _ _ _ c.wrapping_add_u64-in-Data.ensures.value c.taste-in-Data.ensures
     (data-bytes _ _ _ _ _ c.in-Data.is)
 
 pub returns-in-NoBlock : goal.returns-in-NoBlock

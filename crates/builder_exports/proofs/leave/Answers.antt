@@ -8,7 +8,7 @@ use Rattle.builder_exports.proofs.leave.Goals as goal
 pub returns-then-is_accepted : goal.returns-then-is_accepted
 returns-then-is_accepted c = accepted-yes c.args.a.why c.args.a.why
     (numbers_of c.args.a.state) c.args.state.now _ refl
-    (sym c.is_accepted.ensures ∙ c.if-is_accepted.true) c.Numbers-of.ensures
+    (sym c.is_accepted.ensures ∙ c.if-is_accepted.true) c.numbers_of.ensures
 
 pub returns-else-is_accepted : goal.returns-else-is_accepted
 returns-else-is_accepted c = accepted-no c.args.a.why c.args.a.why

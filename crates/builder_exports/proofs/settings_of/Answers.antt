@@ -5,4 +5,4 @@ use Rattle.builder_exports.proofs.settings_of.Goals as goal
 
 pub returns : goal.returns
 returns c = settings-is _ _ _ _ c.kind_of.ensures c.sizes_of.ensures
-    c.Merging-of.ensures
+    c.merging_of.ensures

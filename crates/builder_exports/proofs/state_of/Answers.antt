@@ -5,4 +5,4 @@ use Rattle.builder_exports.proofs.state_of.Goals as goal
 
 pub returns : goal.returns
 returns c =
-    state-is _ _ _ _ c.kind_of.ensures c.growth_of.ensures c.Merging-of.ensures
+    state-is _ _ _ _ c.kind_of.ensures c.growth_of.ensures c.merging_of.ensures

@@ -6,10 +6,9 @@ use Rattle.builder_exports.proofs.tambuyeel_finish_by_copy.Goals as goal
 
 pub returns : goal.returns
 unfolding finish_column
-returns c =
-    (
-      exported _ _ _ _ _ _ _ _ _ _ _ _ _ _ _ _ _ c.state_of-s.ensures c.finish_copy-a.ensures.0 _ _ c.tell.ensures.0
-          c.tell.ensures.1,
-      rw c.state_of-s.ensures at (column-left _ _ _ _ _ _ _ _ _ _ _ _ _ _ _ _ _ c.state_of-s.ensures
-          c.finish_copy-a.ensures.0 _ _ _ _ _ c.finish_copy-a.ensures.1 c.hand.ensures),
-    )
+returns c = (
+  exported _ _ _ _ _ _ _ _ _ _ _ _ _ _ _ _ _ c.state_of-s.ensures c.finish_copy-a.ensures.0 _ _ c.tell.ensures.0
+      c.tell.ensures.1,
+  rw c.state_of-s.ensures at (column-left _ _ _ _ _ _ _ _ _ _ _ _ _ _ _ _ _ c.state_of-s.ensures
+      c.finish_copy-a.ensures.0 _ _ _ _ _ c.finish_copy-a.ensures.1 c.hand.ensures),
+)

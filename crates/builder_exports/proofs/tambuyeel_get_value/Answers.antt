@@ -1,5 +1,5 @@
 -- `builder_exports::tambuyeel_get_value` meets its contract. Assumes nothing.
-use Rattle.finishing.specs.GetLaws.{got}
+use Rattle.finishing.proofs.GetLaws.{got}
 use Rattle.builder.specs.RoomLaws.{fits_gives, ready}
 use Rattle.bounds.specs.Refusals.{is_accepted}
 use mathlib.Core.Path.{sym, ap, ◌∙◌}

@@ -23,10 +23,7 @@ loop-k-init c =
     let a = c.args in
     let fit = fits-is c.fresh-s.result a.views.now a.bytes.now a.starts.now a.lens.now a.nulls.now a.places.now _ _ _
     c.rows_room-room.ensures c.blocks_room.ensures c.bytes_room.ensures in
-    let ends-fit : length a.ends.now < 2 ^ 64 = omega (
-      arith,
-      c.well-formed.1.1.1.1.1.1.1.0,
-    ) in (
+    let ends-fit : length a.ends.now < 2 ^ 64 = omega arith in (
       refl,
       refl,
       refl,
@@ -40,13 +37,6 @@ loop-k-init c =
           c.if-not-state_fits.false-raw),
       c.rows_room-room.ensures,
     )
-
-pub offset_bounds-ends-k : goal.offset_bounds-ends-k
-offset_bounds-ends-k c = omega (
-  arith,
-  c.well-formed.1.1.1.1.1.1.1.0,
-  c.loop-k-test.true,
-)
 
 pub turn-s-requires : goal.turn-s-requires
 turn-s-requires c =
@@ -73,19 +63,19 @@ loop-k-preserved c =
     let l = c.loop-k in
     let k = c.turn-s.auto in
     let t = c.turn-s.ensures in
-    let room = l.inv.10 ∙ same-room t.1 k.1.0 k.1.1.1.1.1.0 k.1.1.1.1.1.1.0 in (
-      k.1.0 ∙ l.inv.0,
-      k.1.1.0 ∙ l.inv.1,
-      k.1.1.1.0 ∙ l.inv.2,
-      k.1.1.1.1.0 ∙ l.inv.3,
-      k.1.1.1.1.1.0 ∙ l.inv.4,
-      k.1.1.1.1.1.1.0 ∙ l.inv.5,
+    let room = l.invariant.10 ∙ same-room t.1 k.views k.nulls k.places in (
+      k.views ∙ l.invariant.0,
+      k.bytes ∙ l.invariant.1,
+      k.starts ∙ l.invariant.2,
+      k.lens ∙ l.invariant.3,
+      k.nulls ∙ l.invariant.4,
+      k.places ∙ l.invariant.5,
       c.if-all-e.false,
       omega (
         arith,
         c.loop-k-test.true,
       ),
-      l.inv.8,
+      l.invariant.8,
       t.0,
       room,
     )

@@ -2,7 +2,7 @@ use Rattle.builder.specs.declared.State.{State}
 use Rattle.builder.specs.State.{held}
 use Rattle.builder.specs.RoomLaws.{Judged}
 use Rattle.builder.specs.DoesLaws.{does-same}
-use Rattle.builder.specs.KeptLaws.{kept-fits, kept-merging}
+use Rattle.builder.proofs.KeptLaws.{kept-fits, kept-merging}
 use Rattle.bounds.specs.Bounds.{byte_limit}
 use lib.ListN.{length, take, drop, length-take}
 use Prim.Native.Nat.{◌-◌, ◌≤◌}
@@ -30,8 +30,8 @@ returns c =
     let d = does-same _ _ _ a.s a.views.now a.bytes.now a.starts.now a.lens.now a.nulls.now a.places.now
     c.anew-t.ensures c.add_part-r.ensures in
     let k = c.add_part-r.auto in (
-      kept-fits a.s a.views.now a.bytes.now a.starts.now a.lens.now a.nulls.now a.places.now x d c.pre.0 c.pre.1
-          k.1.0 k.1.1.0 k.1.1.1.0 k.1.1.1.1.0
-          k.1.1.1.1.1.0 k.1.1.1.1.1.1.0,
-      kept-merging a.s a.views.now a.bytes.now a.starts.now a.lens.now a.nulls.now a.places.now x d c.pre.0 c.pre.1,
+      kept-fits a.s a.views.now a.bytes.now a.starts.now a.lens.now a.nulls.now a.places.now x d c.requires.0 c.requires.1
+          k.views k.bytes k.starts k.lens
+          k.nulls k.places,
+      kept-merging a.s a.views.now a.bytes.now a.starts.now a.lens.now a.nulls.now a.places.now x d c.requires.0 c.requires.1,
     )

@@ -22,7 +22,7 @@ loop-k-preserved c = (
   search rules,
   search rules,
   summed-more _ _ _ _ _ c.loop-k.invariant.2 c.count_nulls-n.ensures
-      c.wrapping_add_u64-sum.ensures,
+      c.wrapping_add_u64-sum.ensures.value,
 )
 
 pub returns : goal.returns

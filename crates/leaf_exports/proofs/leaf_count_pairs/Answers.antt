@@ -19,7 +19,7 @@ loop-k-preserved c = (
   search rules,
   search rules,
   summed-more _ _ _ _ _ c.loop-k.invariant.3
-      c.pair_in-x.ensures c.wrapping_add_u64-sum.ensures,
+      c.pair_in-x.ensures c.wrapping_add_u64-sum.ensures.value,
 )
 
 pub returns : goal.returns

@@ -22,7 +22,7 @@ returns-in-Accepted c =
     ∙ c.in-Accepted.is in
     let view = ap (λ (r : Made). r.view) m ∙ made-view x a.block a.offset why in
     let len : length a.view.now ≡ 16 = search rules in
-    rw why (refl, c.copy16.ensures ∙ rw view (view-whole a.view.now (make_view x a.block a.offset) len (length-make x a.block a.offset)))
+    rw why (record { value = refl; view_after = c.copy16.ensures ∙ rw view (view-whole a.view.now (make_view x a.block a.offset) len (length-make x a.block a.offset)) })
 
 pub returns-in-Refused : goal.returns-in-Refused
 returns-in-Refused c =
@@ -30,4 +30,4 @@ returns-in-Refused c =
     let x = a.x.now in
     let m = c.make_view-made.ensures in
     let why = sym (made-why x a.block a.offset) ∙ sym (ap (λ (r : Made). r.why) m) ∙ c.in-Refused.is in
-    rw why (c.number.ensures, refl)
+    rw why (record { value = c.number.ensures; view_after = refl })

@@ -1,5 +1,4 @@
 -- `text_exports::tambuyeel_utf8` meets its contract. Assumes nothing.
-use borrow.Author.Rules.{rules}
 use Rattle.text_exports.proofs.Laws.{told-yes, told-no}
 use Rattle.text_exports.proofs.tambuyeel_utf8.Goals as goal
 

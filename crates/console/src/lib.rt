@@ -1,61 +1,27 @@
-// What the programs share: standard input read whole, and the status told.
-// A program of this language has no exit status: started with `--status` it writes one digit to descriptor 3, with which its script then ends.
+// What the programs share: standard input read whole, a failure said, and whether an answer is a refusal.
 #![tactic(auto)]
 
-ghost use Rattle.std.specs.Prelude.{◌≡◌, ◌+◌, ◌≤◌, length};
-ghost use Rattle.io.specs.Counts.{IsPrefixLen};
+ghost use Rattle.std.specs.Prelude.{◌≡◌};
+ghost use Rattle.std.specs.Io.{ReadsAtMost};
 ghost use Rattle.console.specs.Status.{is_refusal};
 
-use libc::STDIN_FILENO;
+use std::io;
+use std::io::{ErrorKind, Read};
 use whole::Place;
 
-const STATUS_FILENO: i32 = 3;
-
-// How many bytes came, and whether it was a failure that ended them.
-#[derive(Clone, Copy)]
-pub struct Got {
-    pub failed: bool,
-    pub count: usize,
-}
-
-// One read, from byte `at` of the input on.
-fn read_more(input: &mut [u8], at: usize) -> Got
-    requires { at ≤ length input.old }
-    ensures { at + result.count ≤ length input.old }
-{
-    let got = libc::read(STDIN_FILENO, &mut input[at..]);
-    if got < 0 {
-        return Got {
-            failed: true,
-            count: 0,
-        };
-    }
-    Got {
-        failed: false,
-        count: io::count(got, &input[at..]),
-    }
-}
-
-// Reads until the input is full, ends, or fails.
-pub fn read_all(input: &mut [u8]) -> Got
-    ensures { IsPrefixLen result.count input.new }
+// Reads until the input is full, ends, or fails, and answers how many bytes came, at the input's start.
+pub fn read_all<R: Read>(from: &mut R, input: &mut [u8]) -> io::Result<usize>
+    ensures { ReadsAtMost result input.new }
 {
     let mut done = 0;
     while done < input.len() {
-        let got = read_more(input, done);
-        let n = got.count;
+        let n = from.read(&mut input[done..])?;
         if n == 0 {
-            return Got {
-                failed: got.failed,
-                count: done,
-            };
+            return Ok(done);
         }
         done += n;
     }
-    Got {
-        failed: false,
-        count: done,
-    }
+    Ok(done)
 }
 
 // Does an answer that begins there refuse the input?
@@ -71,11 +37,9 @@ pub fn is_refusal(p: Place) -> bool
     }
 }
 
-// The status to whoever asked for it.
-pub fn tell(status: u8) {
-    let mut word = [0u8; 16];
-    let n = os::arg(1, &mut word);
-    if order::same(&word[..n], b"--status") {
-        io::write_all(STATUS_FILENO, &[status]);
+// Says on standard error what failed and why. A pipe that was closed is no news.
+pub fn tell(rt: &impl Eprint, what: &str, why: &io::Error) {
+    if why.kind() != ErrorKind::BrokenPipe {
+        let _ = eprintln!(rt; "{what}: {why}");
     }
 }

@@ -2,8 +2,11 @@
 #![tactic(auto)]
 
 ghost use Rattle.std.specs.Prelude.{◌+◌, ◌*◌, ◌≤◌, length};
+ghost use Rattle.std.specs.Io.{ReadsAtMost};
 
 use column::{Column, Kind};
+use std::io;
+use std::io::Read;
 
 // Word k of a record.
 pub fn word(from: &[u8], k: usize) -> usize
@@ -48,28 +51,48 @@ pub fn shape_at(head: &[u8], k: usize) -> Shape
     }
 }
 
+// Reads until the buffer is full or the list ends, and answers how many bytes came, at the buffer's start.
+pub fn read_full<R: Read>(from: &mut R, buf: &mut [u8]) -> io::Result<usize>
+    ensures { ReadsAtMost result buf.new }
+{
+    let mut done = 0;
+    while done < buf.len() {
+        let n = from.read(&mut buf[done..])?;
+        if n == 0 {
+            return Ok(done);
+        }
+        done += n;
+    }
+    Ok(done)
+}
+
 // Fills the first n bytes; false where the list ends before.
-pub fn fill(fd: i32, buf: &mut [u8], n: usize) -> bool
+pub fn fill<R: Read>(from: &mut R, buf: &mut [u8], n: usize) -> io::Result<bool>
     requires { n ≤ length buf.old }
 {
-    io::read_full(fd, &mut buf[..n]) == n
+    Ok(read_full(from, &mut buf[..n])? == n)
 }
 
 // Fills the first n records of the table.
-pub fn fill_table(fd: i32, starts: &mut [usize], lens: &mut [usize], n: usize) -> bool
+pub fn fill_table<R: Read>(
+    from: &mut R,
+    starts: &mut [usize],
+    lens: &mut [usize],
+    n: usize,
+) -> io::Result<bool>
     requires { (n ≤ length starts.old) × (n ≤ length lens.old) }
 {
     let mut k = 0;
     while k < n {
         let mut record = [0u8; 16];
-        if io::read_full(fd, &mut record) < 16 {
-            return false;
+        if read_full(from, &mut record)? < 16 {
+            return Ok(false);
         }
         starts[k] = word(&record, 0);
         lens[k] = word(&record, 1);
         k += 1;
     }
-    true
+    Ok(true)
 }
 
 // The first n bytes, or all there are.

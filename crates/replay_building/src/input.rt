@@ -1,6 +1,9 @@
 // Words, buffers and columns of the fixed list.
 ghost use Rattle.std.specs.Prelude.{◌+◌, ◌*◌, ◌≤◌, length};
 
+use std::io;
+use std::io::Read;
+
 // Word k of a record.
 pub fn word(from: &[u8], k: usize) -> usize
     requires { 8 * k + 8 ≤ length from.now }
@@ -29,10 +32,10 @@ pub fn cut<'a>(from: &'a [u8], at: usize, n: usize) -> &'a [u8] {
 }
 
 // Fills the first n bytes; false where the list ends before.
-pub fn fill(fd: i32, buf: &mut [u8], n: usize) -> bool
+pub fn fill<R: Read>(file: &mut R, buf: &mut [u8], n: usize) -> io::Result<bool>
     requires { n ≤ length buf.old }
 {
-    io::read_full(fd, &mut buf[..n]) == n
+    Ok(lists::read_full(file, &mut buf[..n])? == n)
 }
 
 // The records of a table: its starts and lengths, two words each, as many as there is room for.

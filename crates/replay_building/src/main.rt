@@ -7,7 +7,9 @@
 
 mod input;
 
-use libc::STDOUT_FILENO;
+use std::io::Read;
+use std::rt::Files;
+use std::{fs, io};
 
 #[derive(Clone, Copy)]
 struct Tally {
@@ -668,8 +670,8 @@ fn torn(t: Tally) -> Tally {
 }
 
 // A call of the list read and asked.
-fn turn(
-    fd: i32,
+fn turn<R: Read>(
+    file: &mut R,
     through: bool,
     settings: &[usize; 5],
     state: &mut [usize; 11],
@@ -680,18 +682,18 @@ fn turn(
     nulls: &mut [u8],
     places: &mut [u32],
     t: Tally,
-) -> Tally {
+) -> io::Result<Tally> {
     let mut q = [0u8; 168];
-    if io::read_full(fd, &mut q) < 168 {
-        return torn(t);
+    if lists::read_full(file, &mut q)? < 168 {
+        return Ok(torn(t));
     }
     let n = input::word(&q, 4);
     let mut x = [0u8; 512];
     if 512 < n {
-        return torn(t);
+        return Ok(torn(t));
     }
-    if !input::fill(fd, &mut x, n) {
-        return torn(t);
+    if !input::fill(file, &mut x, n)? {
+        return Ok(torn(t));
     }
     let right = ask(
         &q,
@@ -706,34 +708,34 @@ fn turn(
         nulls,
         places,
     );
-    counted(t, input::word(&q, 5) != 0, right)
+    Ok(counted(t, input::word(&q, 5) != 0, right))
 }
 
 // Whether the list goes on with these bytes.
-fn goes_on(fd: i32, have: &[u8]) -> bool {
+fn goes_on<R: Read>(file: &mut R, have: &[u8]) -> io::Result<bool> {
     let n = have.len();
     let mut want = [0u8; 1024];
     if 1024 < n {
-        return false;
+        return Ok(false);
     }
-    if !input::fill(fd, &mut want, n) {
-        return false;
+    if !input::fill(file, &mut want, n)? {
+        return Ok(false);
     }
-    order::same(input::cut(&want, 0, n), have)
+    Ok(order::same(input::cut(&want, 0, n), have))
 }
 
 // Whether the list goes on with these records.
-fn goes_on_table(fd: i32, starts: &[usize], lens: &[usize]) -> bool {
+fn goes_on_table<R: Read>(file: &mut R, starts: &[usize], lens: &[usize]) -> io::Result<bool> {
     let n = starts.len();
     let mut k = 0;
     let mut right = true;
     while k < n {
         let mut record = [0u8; 16];
-        if io::read_full(fd, &mut record) < 16 {
-            return false;
+        if lists::read_full(file, &mut record)? < 16 {
+            return Ok(false);
         }
         if lens.len() <= k {
-            return false;
+            return Ok(false);
         }
         if input::word(&record, 0) != starts[k] {
             right = false;
@@ -743,7 +745,7 @@ fn goes_on_table(fd: i32, starts: &[usize], lens: &[usize]) -> bool {
         }
         k += 1;
     }
-    right
+    Ok(right)
 }
 
 fn counted_buffers(t: Tally, views: bool, bytes: bool, table: bool, nulls: bool) -> Tally {
@@ -761,8 +763,8 @@ fn counted_buffers(t: Tally, views: bool, bytes: bool, table: bool, nulls: bool)
 }
 
 // The n calls of a group, and the buffers after them.
-fn calls(
-    fd: i32,
+fn calls<R: Read>(
+    file: &mut R,
     through: bool,
     settings: &[usize; 5],
     state: &mut [usize; 11],
@@ -774,28 +776,28 @@ fn calls(
     places: &mut [u32],
     n: usize,
     before: Tally,
-) -> Tally {
+) -> io::Result<Tally> {
     let mut t = before;
     let mut k = 0;
     while k < n {
         t = turn(
-            fd, through, settings, state, views, bytes, starts, lens, nulls, places, t,
-        );
+            file, through, settings, state, views, bytes, starts, lens, nulls, places, t,
+        )?;
         if t.ended {
-            return t;
+            return Ok(t);
         }
         k += 1;
     }
-    let a = goes_on(fd, &views[..]);
-    let b = goes_on(fd, &bytes[..]);
-    let c = goes_on_table(fd, &starts[..], &lens[..]);
-    let d = goes_on(fd, &nulls[..]);
-    counted_buffers(t, a, b, c, d)
+    let a = goes_on(file, &views[..])?;
+    let b = goes_on(file, &bytes[..])?;
+    let c = goes_on_table(file, &starts[..], &lens[..])?;
+    let d = goes_on(file, &nulls[..])?;
+    Ok(counted_buffers(t, a, b, c, d))
 }
 
 // A group over its buffers: the builder is started, then called.
-fn begun(
-    fd: i32,
+fn begun<R: Read>(
+    file: &mut R,
     through: bool,
     settings: &[usize; 5],
     state: &mut [usize; 11],
@@ -807,17 +809,17 @@ fn begun(
     places: &mut [u32],
     n: usize,
     t: Tally,
-) -> Tally {
+) -> io::Result<Tally> {
     if builder_exports::tambuyeel_start(settings, state, places) != 0 {
-        return torn(t);
+        return Ok(torn(t));
     }
     calls(
-        fd, through, settings, state, views, bytes, starts, lens, nulls, places, n, t,
+        file, through, settings, state, views, bytes, starts, lens, nulls, places, n, t,
     )
 }
 
 // A group: its head has been read.
-fn group(fd: i32, through: bool, head: &[u8; 96], t: Tally) -> Tally {
+fn group<R: Read>(file: &mut R, through: bool, head: &[u8; 96], t: Tally) -> io::Result<Tally> {
     let settings = [
         input::word(head, 2),
         input::word(head, 3),
@@ -832,19 +834,19 @@ fn group(fd: i32, through: bool, head: &[u8; 96], t: Tally) -> Tally {
     let m = input::word(head, 10);
     let p = input::word(head, 11);
     if 1024 < v {
-        return torn(t);
+        return Ok(torn(t));
     }
     if 1024 < d {
-        return torn(t);
+        return Ok(torn(t));
     }
     if 16 < k {
-        return torn(t);
+        return Ok(torn(t));
     }
     if 16 < m {
-        return torn(t);
+        return Ok(torn(t));
     }
     if 64 < p {
-        return torn(t);
+        return Ok(torn(t));
     }
     let mut views = [170u8; 1024];
     let mut bytes = [170u8; 1024];
@@ -854,7 +856,7 @@ fn group(fd: i32, through: bool, head: &[u8; 96], t: Tally) -> Tally {
     let mut places = [170u32; 64];
     let mut state = [0usize; 11];
     begun(
-        fd,
+        file,
         through,
         &settings,
         &mut state,
@@ -870,11 +872,11 @@ fn group(fd: i32, through: bool, head: &[u8; 96], t: Tally) -> Tally {
 }
 
 // The next group, or the list's end.
-fn next_group(fd: i32, through: bool, t: Tally) -> Tally {
+fn next_group<R: Read>(file: &mut R, through: bool, t: Tally) -> io::Result<Tally> {
     let mut head = [0u8; 96];
-    let got = io::read_full(fd, &mut head);
+    let got = lists::read_full(file, &mut head)?;
     if got == 0 {
-        return Tally {
+        return Ok(Tally {
             groups: t.groups,
             calls: t.calls,
             refused: t.refused,
@@ -883,10 +885,10 @@ fn next_group(fd: i32, through: bool, t: Tally) -> Tally {
             buffers: t.buffers,
             torn: t.torn,
             ended: true,
-        };
+        });
     }
     if got < 96 {
-        return torn(t);
+        return Ok(torn(t));
     }
     let begun = Tally {
         groups: more(t.groups),
@@ -898,11 +900,11 @@ fn next_group(fd: i32, through: bool, t: Tally) -> Tally {
         torn: false,
         ended: false,
     };
-    group(fd, through, &head, begun)
+    group(file, through, &head, begun)
 }
 
 // All groups, up to more than any list has.
-fn replay(fd: i32, through: bool) -> Tally {
+fn replay<R: Read>(file: &mut R, through: bool) -> io::Result<Tally> {
     let mut t = Tally {
         groups: 0,
         calls: 0,
@@ -915,45 +917,40 @@ fn replay(fd: i32, through: bool) -> Tally {
     };
     let mut k = 0usize;
     while k < 1000000 {
-        t = next_group(fd, through, t);
+        t = next_group(file, through, t)?;
         if t.ended {
-            return t;
+            return Ok(t);
         }
         k += 1;
     }
-    t
+    Ok(t)
 }
 
-fn say(name: &[u8], n: u64) {
-    io::write_all(STDOUT_FILENO, name);
-    io::print_decimal(STDOUT_FILENO, n);
-    io::write_all(STDOUT_FILENO, b"\n");
+fn say(rt: &impl Print, name: &str, n: u64) -> io::Result<()> {
+    println!(rt; "{name}{n}")
 }
 
-fn tell(t: Tally) {
-    say(b"groups=", t.groups);
-    say(b"calls=", t.calls);
-    say(b"refused=", t.refused);
-    say(b"wrong=", t.wrong);
-    say(b"first=", t.first);
-    say(b"buffers=", t.buffers);
-    say(b"torn=", if t.torn { 1 } else { 0 });
+fn tell(rt: &impl Print, t: Tally) -> io::Result<()> {
+    say(rt, "groups=", t.groups)?;
+    say(rt, "calls=", t.calls)?;
+    say(rt, "refused=", t.refused)?;
+    say(rt, "wrong=", t.wrong)?;
+    say(rt, "first=", t.first)?;
+    say(rt, "buffers=", t.buffers)?;
+    say(rt, "torn=", if t.torn { 1 } else { 0 })
 }
 
 // The list, over number slices or over records.
-fn list(through: bool) {
-    let fd = os::open_read(b"building.bin");
-    if fd < 0 {
-        io::write_all(STDOUT_FILENO, b"no building.bin\n");
-        return;
-    }
-    let t = replay(fd, through);
-    libc::close(fd);
-    tell(t);
+fn list(rt: &(impl Files + Print), through: bool) -> io::Result<()> {
+    let Ok(mut file) = fs::open(rt, "building.bin") else {
+        return println!(rt; "no building.bin");
+    };
+    let t = replay(&mut file, through)?;
+    tell(rt, t)
 }
 
-fn main() {
-    list(false);
-    io::write_all(STDOUT_FILENO, b"over records\n");
-    list(true);
+fn main(rt: HostRuntime) -> io::Result<()> {
+    list(&rt, false)?;
+    println!(rt; "over records")?;
+    list(&rt, true)
 }

@@ -5,8 +5,10 @@
 ghost use Rattle.std.specs.Prelude.{◌+◌, ◌<◌, ◌≤◌, length};
 
 use growth::Growth;
-use libc::STDOUT_FILENO;
 use order::Order;
+use std::io::Read;
+use std::rt::Files;
+use std::{fs, io};
 
 // The lists in their order.
 const VIEWS: usize = 0;
@@ -40,20 +42,20 @@ enum Turn {
     Torn,
 }
 
-fn open(list: usize) -> i32 {
+fn open<R: Files>(rt: &R, list: usize) -> io::Result<R::File> {
     if list == VIEWS {
-        return os::open_read(b"make_view.bin");
+        return fs::open(rt, "make_view.bin");
     }
     if list == UTF8 {
-        return os::open_read(b"utf8.bin");
+        return fs::open(rt, "utf8.bin");
     }
     if list == NULLS {
-        return os::open_read(b"null_runs.bin");
+        return fs::open(rt, "null_runs.bin");
     }
     if list == GROWTH {
-        return os::open_read(b"growth.bin");
+        return fs::open(rt, "growth.bin");
     }
-    os::open_read(b"order.bin")
+    fs::open(rt, "order.bin")
 }
 
 // Bytes of a head.
@@ -220,46 +222,52 @@ fn is_right(list: usize, h: Head, body: &[u8]) -> bool {
 }
 
 // Fills all of `part` with a record's bytes and judges it.
-fn judge(fd: i32, list: usize, h: Head, part: &mut [u8]) -> Turn {
-    let got = io::read_full(fd, part);
+fn judge<R: Read>(from: &mut R, list: usize, h: Head, part: &mut [u8]) -> io::Result<Turn> {
+    let got = lists::read_full(from, part)?;
     if got < part.len() {
-        return Turn::Torn;
+        return Ok(Turn::Torn);
     }
     if is_right(list, h, part) {
-        return Turn::Right;
+        return Ok(Turn::Right);
     }
-    Turn::Wrong
+    Ok(Turn::Wrong)
 }
 
-fn judge_first(fd: i32, list: usize, h: Head, buf: &mut [u8], n: usize) -> Turn
+fn judge_first<R: Read>(
+    from: &mut R,
+    list: usize,
+    h: Head,
+    buf: &mut [u8],
+    n: usize,
+) -> io::Result<Turn>
     requires { n ≤ length buf.old }
 {
-    judge(fd, list, h, &mut buf[..n])
+    judge(from, list, h, &mut buf[..n])
 }
 
-fn read_first(fd: i32, buf: &mut [u8], n: usize) -> usize
+fn read_first<R: Read>(from: &mut R, buf: &mut [u8], n: usize) -> io::Result<usize>
     requires { n ≤ length buf.old }
 {
-    io::read_full(fd, &mut buf[..n])
+    lists::read_full(from, &mut buf[..n])
 }
 
-fn one(fd: i32, list: usize) -> Turn {
+fn one<R: Read>(from: &mut R, list: usize) -> io::Result<Turn> {
     let mut head = [0u8; 40];
     let k = head_size(list);
-    let got = read_first(fd, &mut head, k);
+    let got = read_first(from, &mut head, k)?;
     if got == 0 {
-        return Turn::End;
+        return Ok(Turn::End);
     }
     if got < k {
-        return Turn::Torn;
+        return Ok(Turn::Torn);
     }
     let h = head_of(&head);
     let n = body_size(list, h);
     if BODY < n {
-        return Turn::Torn;
+        return Ok(Turn::Torn);
     }
     let mut body = [0u8; 128];
-    judge_first(fd, list, h, &mut body, n)
+    judge_first(from, list, h, &mut body, n)
 }
 
 #[derive(Clone, Copy)]
@@ -303,7 +311,7 @@ fn count(t: Tally, turn: Turn) -> Tally
 }
 
 // At most a million records: the lists have far fewer.
-fn all_of(fd: i32, list: usize) -> Tally {
+fn all_of<R: Read>(from: &mut R, list: usize) -> io::Result<Tally> {
     let mut t = Tally {
         left: 1000000,
         right: 0,
@@ -311,53 +319,50 @@ fn all_of(fd: i32, list: usize) -> Tally {
         torn: 0,
     };
     while 0 < t.left {
-        t = count(t, one(fd, list));
+        t = count(t, one(from, list)?);
     }
-    t
+    Ok(t)
 }
 
-fn say(name: &[u8], n: u64) {
-    io::write_all(STDOUT_FILENO, name);
-    io::print_decimal(STDOUT_FILENO, n);
+fn say(rt: &impl Print, name: &str, n: u64) -> io::Result<()> {
+    print!(rt; "{name}{n}")
 }
 
-fn say_list(list: usize) {
+fn say_list(rt: &impl Print, list: usize) -> io::Result<()> {
     if list == VIEWS {
-        io::write_all(STDOUT_FILENO, b"make_view");
+        print!(rt; "make_view")?;
     }
     if list == UTF8 {
-        io::write_all(STDOUT_FILENO, b"utf8");
+        print!(rt; "utf8")?;
     }
     if list == NULLS {
-        io::write_all(STDOUT_FILENO, b"null_runs");
+        print!(rt; "null_runs")?;
     }
     if list == GROWTH {
-        io::write_all(STDOUT_FILENO, b"growth");
+        print!(rt; "growth")?;
     }
     if list == ORDER {
-        io::write_all(STDOUT_FILENO, b"order");
+        print!(rt; "order")?;
     }
+    Ok(())
 }
 
-fn replay(list: usize) {
-    let fd = open(list);
-    say_list(list);
-    if fd < 0 {
-        io::write_all(STDOUT_FILENO, b" absent\n");
-        return;
-    }
-    let t = all_of(fd, list);
-    libc::close(fd);
-    say(b" right=", t.right);
-    say(b" wrong=", t.wrong);
-    say(b" torn=", t.torn);
-    io::write_all(STDOUT_FILENO, b"\n");
+fn replay(rt: &(impl Files + Print), list: usize) -> io::Result<()> {
+    say_list(rt, list)?;
+    let Ok(mut from) = open(rt, list) else {
+        return println!(rt; " absent");
+    };
+    let t = all_of(&mut from, list)?;
+    say(rt, " right=", t.right)?;
+    say(rt, " wrong=", t.wrong)?;
+    say(rt, " torn=", t.torn)?;
+    println!(rt)
 }
 
-fn main() {
-    replay(VIEWS);
-    replay(UTF8);
-    replay(NULLS);
-    replay(GROWTH);
-    replay(ORDER);
+fn main(rt: HostRuntime) -> io::Result<()> {
+    replay(&rt, VIEWS)?;
+    replay(&rt, UTF8)?;
+    replay(&rt, NULLS)?;
+    replay(&rt, GROWTH)?;
+    replay(&rt, ORDER)
 }

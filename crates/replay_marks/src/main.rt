@@ -5,8 +5,9 @@
 #![tactic(auto)]
 
 use column::Column;
-use libc::STDOUT_FILENO;
 use marks::{Marked, Tallied};
+use std::io::Read;
+use std::{fs, io};
 
 // No text has more bytes.
 const MOST: usize = 64;
@@ -98,26 +99,26 @@ fn begin(t: Tally) -> Tally {
 }
 
 // The next text: a head of its length and its mark, then its bytes.
-fn text(fd: i32, t: Tally) -> Tally {
+fn text<R: Read>(from: &mut R, t: Tally) -> io::Result<Tally> {
     let mut head = [0u8; 16];
-    let got = io::read_full(fd, &mut head);
+    let got = lists::read_full(from, &mut head)?;
     if got == 0 {
-        return end(t, false);
+        return Ok(end(t, false));
     }
     if got < 16 {
-        return end(t, true);
+        return Ok(end(t, true));
     }
     let n = lists::word(&head, 0);
     let want = lists::word(&head, 1);
     if MOST < n {
-        return end(t, true);
+        return Ok(end(t, true));
     }
     let mut body = [0u8; 64];
-    if !lists::fill(fd, &mut body, n) {
-        return end(t, true);
+    if !lists::fill(from, &mut body, n)? {
+        return Ok(end(t, true));
     }
     let mark = codes::number_of(codes::mark_of(lists::front(&body, n)));
-    judged(t, want, false, false, mark == want)
+    Ok(judged(t, want, false, false, mark == want))
 }
 
 // Whether a question's words 1 to 3 are these.
@@ -222,8 +223,8 @@ fn counts_right<'a>(
 }
 
 // The n rows that are asked for.
-fn rows<'a>(
-    fd: i32,
+fn rows<'a, R: Read>(
+    from: &mut R,
     views: &'a [u8],
     bytes: &'a [u8],
     starts: &[usize],
@@ -232,24 +233,24 @@ fn rows<'a>(
     c: Column,
     n: u64,
     before: Tally,
-) -> Tally {
+) -> io::Result<Tally> {
     let mut t = before;
     let mut k = 0;
     while k < n {
         let mut q = [0u8; 32];
-        if io::read_full(fd, &mut q) < 32 {
-            return end(t, true);
+        if lists::read_full(from, &mut q)? < 32 {
+            return Ok(end(t, true));
         }
         let right = row_right(&q, views, bytes, starts, lens, nulls, c);
         t = judged(t, 0, false, true, right);
         k += 1;
     }
-    t
+    Ok(t)
 }
 
 // A column whose buffers are filled: how many rows have each mark, then the rows.
-fn asked<'a>(
-    fd: i32,
+fn asked<'a, R: Read>(
+    from: &mut R,
     head: &[u8; 128],
     views: &'a [u8],
     bytes: &'a [u8],
@@ -258,52 +259,52 @@ fn asked<'a>(
     nulls: &'a [u8],
     c: Column,
     before: Tally,
-) -> Tally {
+) -> io::Result<Tally> {
     let right = counts_right(head, views, bytes, starts, lens, nulls, c);
     let t = judged(before, 0, true, false, right);
     let n = lists::word(head, 15) as u64;
-    rows(fd, views, bytes, starts, lens, nulls, c, n, t)
+    rows(from, views, bytes, starts, lens, nulls, c, n, t)
 }
 
 // Fills a column's buffers; false where they hold less than its shape says, or the list ends.
-fn load(
-    fd: i32,
+fn load<R: Read>(
+    from: &mut R,
     views: &mut [u8],
     bytes: &mut [u8],
     starts: &mut [usize],
     lens: &mut [usize],
     nulls: &mut [u8],
     s: lists::Shape,
-) -> bool {
+) -> io::Result<bool> {
     if views.len() < s.views {
-        return false;
+        return Ok(false);
     }
     if bytes.len() < s.bytes {
-        return false;
+        return Ok(false);
     }
     if starts.len() < s.blocks {
-        return false;
+        return Ok(false);
     }
     if lens.len() < s.blocks {
-        return false;
+        return Ok(false);
     }
     if nulls.len() < s.nulls {
-        return false;
+        return Ok(false);
     }
-    if !lists::fill(fd, views, s.views) {
-        return false;
+    if !lists::fill(from, views, s.views)? {
+        return Ok(false);
     }
-    if !lists::fill(fd, bytes, s.bytes) {
-        return false;
+    if !lists::fill(from, bytes, s.bytes)? {
+        return Ok(false);
     }
-    if !lists::fill_table(fd, starts, lens, s.blocks) {
-        return false;
+    if !lists::fill_table(from, starts, lens, s.blocks)? {
+        return Ok(false);
     }
-    lists::fill(fd, nulls, s.nulls)
+    lists::fill(from, nulls, s.nulls)
 }
 
 // The next column: its head has been read.
-fn column(fd: i32, head: &[u8; 128], t: Tally) -> Tally {
+fn column<R: Read>(from: &mut R, head: &[u8; 128], t: Tally) -> io::Result<Tally> {
     let s = lists::shape_at(head, 0);
     let c = s.column;
     let mut views = [0u8; 1024];
@@ -312,18 +313,18 @@ fn column(fd: i32, head: &[u8; 128], t: Tally) -> Tally {
     let mut lens = [0usize; 16];
     let mut nulls = [0u8; 16];
     if !load(
-        fd,
+        from,
         &mut views,
         &mut bytes,
         &mut starts,
         &mut lens,
         &mut nulls,
         s,
-    ) {
-        return end(t, true);
+    )? {
+        return Ok(end(t, true));
     }
     asked(
-        fd,
+        from,
         head,
         lists::front(&views, s.views),
         lists::front(&bytes, s.bytes),
@@ -336,65 +337,63 @@ fn column(fd: i32, head: &[u8; 128], t: Tally) -> Tally {
 }
 
 // The next column, or the list's end.
-fn group(fd: i32, t: Tally) -> Tally {
+fn group<R: Read>(from: &mut R, t: Tally) -> io::Result<Tally> {
     let mut head = [0u8; 128];
-    let got = io::read_full(fd, &mut head);
+    let got = lists::read_full(from, &mut head)?;
     if got == 0 {
-        return end(t, false);
+        return Ok(end(t, false));
     }
     if got < 128 {
-        return end(t, true);
+        return Ok(end(t, true));
     }
-    column(fd, &head, t)
+    column(from, &head, t)
 }
 
 // All texts, up to more than the list has.
-fn texts(fd: i32, before: Tally) -> Tally {
+fn texts<R: Read>(from: &mut R, before: Tally) -> io::Result<Tally> {
     let mut t = begin(before);
     let mut k = 0usize;
     while k < 1000000 {
-        t = text(fd, t);
+        t = text(from, t)?;
         if t.ended {
-            return t;
+            return Ok(t);
         }
         k += 1;
     }
-    t
+    Ok(t)
 }
 
 // All columns, up to more than the list has.
-fn groups(fd: i32, before: Tally) -> Tally {
+fn groups<R: Read>(from: &mut R, before: Tally) -> io::Result<Tally> {
     let mut t = begin(before);
     let mut k = 0usize;
     while k < 1000000 {
-        t = group(fd, t);
+        t = group(from, t)?;
         if t.ended {
-            return t;
+            return Ok(t);
         }
         k += 1;
     }
-    t
+    Ok(t)
 }
 
-fn say(name: &[u8], n: u64) {
-    io::write_all(STDOUT_FILENO, name);
-    io::print_decimal(STDOUT_FILENO, n);
-    io::write_all(STDOUT_FILENO, b"\n");
+fn say(rt: &impl Print, name: &str, n: u64) -> io::Result<()> {
+    println!(rt; "{name}{n}")
 }
 
-fn report(t: Tally) {
-    say(b"texts=", t.texts);
-    say(b"others=", t.others);
-    say(b"codes=", t.codes);
-    say(b"dates=", t.dates);
-    say(b"columns=", t.columns);
-    say(b"rows=", t.rows);
-    say(b"wrong=", t.wrong);
-    say(b"first=", t.first);
-    say(b"torn=", if t.torn { 1 } else { 0 });
+fn report(rt: &impl Print, t: Tally) -> io::Result<()> {
+    say(rt, "texts=", t.texts)?;
+    say(rt, "others=", t.others)?;
+    say(rt, "codes=", t.codes)?;
+    say(rt, "dates=", t.dates)?;
+    say(rt, "columns=", t.columns)?;
+    say(rt, "rows=", t.rows)?;
+    say(rt, "wrong=", t.wrong)?;
+    say(rt, "first=", t.first)?;
+    say(rt, "torn=", if t.torn { 1 } else { 0 })
 }
 
-fn main() {
+fn main(rt: HostRuntime) -> io::Result<()> {
     let none = Tally {
         texts: 0,
         others: 0,
@@ -408,19 +407,13 @@ fn main() {
         torn: false,
         ended: false,
     };
-    let fd = os::open_read(b"texts.bin");
-    if fd < 0 {
-        io::write_all(STDOUT_FILENO, b"no texts.bin\n");
-        return;
-    }
-    let t = texts(fd, none);
-    libc::close(fd);
-    let fd2 = os::open_read(b"columns.bin");
-    if fd2 < 0 {
-        io::write_all(STDOUT_FILENO, b"no columns.bin\n");
-        return;
-    }
-    let all = groups(fd2, t);
-    libc::close(fd2);
-    report(all);
+    let Ok(mut from) = fs::open(&rt, "texts.bin") else {
+        return println!(rt; "no texts.bin");
+    };
+    let t = texts(&mut from, none)?;
+    let Ok(mut from2) = fs::open(&rt, "columns.bin") else {
+        return println!(rt; "no columns.bin");
+    };
+    let all = groups(&mut from2, t)?;
+    report(&rt, all)
 }

@@ -2,6 +2,8 @@
 ghost use Rattle.std.specs.Prelude.{◌+◌, ◌*◌, ◌≤◌, length};
 
 use column::{Column, Kind};
+use std::io;
+use std::io::Read;
 
 pub const MOST_BYTES: usize = 1024;
 
@@ -58,54 +60,59 @@ pub fn sizes_at(head: &[u8], k: usize) -> Sizes
 }
 
 // Fills the first n bytes; false where there is no room, or the list ends before.
-pub fn fill(fd: i32, buf: &mut [u8], n: usize) -> bool {
+pub fn fill<R: Read>(file: &mut R, buf: &mut [u8], n: usize) -> io::Result<bool> {
     if buf.len() < n {
-        return false;
+        return Ok(false);
     }
-    io::read_full(fd, &mut buf[..n]) == n
+    Ok(lists::read_full(file, &mut buf[..n])? == n)
 }
 
 // Fills the first n records of the table; false where there is no room, or the list ends before.
-pub fn fill_table(fd: i32, starts: &mut [usize], lens: &mut [usize], n: usize) -> bool {
+pub fn fill_table<R: Read>(
+    file: &mut R,
+    starts: &mut [usize],
+    lens: &mut [usize],
+    n: usize,
+) -> io::Result<bool> {
     let mut k = 0;
     while k < n {
         let mut record = [0u8; 16];
-        if io::read_full(fd, &mut record) < 16 {
-            return false;
+        if lists::read_full(file, &mut record)? < 16 {
+            return Ok(false);
         }
         if starts.len() <= k {
-            return false;
+            return Ok(false);
         }
         if lens.len() <= k {
-            return false;
+            return Ok(false);
         }
         starts[k] = word(&record, 0);
         lens[k] = word(&record, 1);
         k += 1;
     }
-    true
+    Ok(true)
 }
 
 // Fills a column's buffers; false where they hold less than the sizes say, or the list ends.
-pub fn load(
-    fd: i32,
+pub fn load<R: Read>(
+    file: &mut R,
     views: &mut [u8],
     bytes: &mut [u8],
     starts: &mut [usize],
     lens: &mut [usize],
     nulls: &mut [u8],
     s: Sizes,
-) -> bool {
-    if !fill(fd, views, s.views) {
-        return false;
+) -> io::Result<bool> {
+    if !fill(file, views, s.views)? {
+        return Ok(false);
     }
-    if !fill(fd, bytes, s.bytes) {
-        return false;
+    if !fill(file, bytes, s.bytes)? {
+        return Ok(false);
     }
-    if !fill_table(fd, starts, lens, s.blocks) {
-        return false;
+    if !fill_table(file, starts, lens, s.blocks)? {
+        return Ok(false);
     }
-    fill(fd, nulls, s.nulls)
+    fill(file, nulls, s.nulls)
 }
 
 // The first n bytes, or all there are.

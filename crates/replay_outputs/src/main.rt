@@ -10,8 +10,10 @@ ghost use Rattle.std.specs.Prelude.{◌≡◌, true, ◌≤◌, length};
 use bounds::Why;
 use column::{Column, Kind};
 use input::Sizes;
-use libc::STDOUT_FILENO;
 use output_blocks::Layout;
+use std::io::Read;
+use std::rt::Files;
+use std::{fs, io};
 
 // Every byte of an output buffer before the call.
 const BEFORE: u8 = 0xaa;
@@ -488,8 +490,8 @@ fn weighed<'a>(
 }
 
 // A compaction whose source is read.
-fn compacted<'a>(
-    fd: i32,
+fn compacted<'a, R: Read>(
+    file: &mut R,
     views: &'a [u8],
     bytes: &'a [u8],
     starts: &[usize],
@@ -499,7 +501,7 @@ fn compacted<'a>(
     most: usize,
     s: Sizes,
     t: Tally,
-) -> Tally {
+) -> io::Result<Tally> {
     let mut answer = [0u8; 40];
     let mut views2 = [0u8; 1024];
     let mut bytes2 = [0u8; 1024];
@@ -507,26 +509,26 @@ fn compacted<'a>(
     let mut lens2 = [0usize; 16];
     let mut nulls2 = [0u8; 16];
     if !in_room(s) {
-        return stopped(t, true);
+        return Ok(stopped(t, true));
     }
-    if io::read_full(fd, &mut answer) < 40 {
-        return stopped(t, true);
+    if lists::read_full(file, &mut answer)? < 40 {
+        return Ok(stopped(t, true));
     }
     if !input::load(
-        fd,
+        file,
         &mut views2,
         &mut bytes2,
         &mut starts2,
         &mut lens2,
         &mut nulls2,
         s,
-    ) {
-        return stopped(t, true);
+    )? {
+        return Ok(stopped(t, true));
     }
-    weighed(
+    Ok(weighed(
         views, bytes, starts, lens, nulls, c, most, &views2, &bytes2, &starts2, &lens2, &nulls2, s,
         &answer, t,
-    )
+    ))
 }
 
 // An offset column whose source and expected buffers are read, by number slices and over a table of records.
@@ -581,8 +583,8 @@ fn judged<'a>(
 }
 
 // An offset column whose source is read.
-fn converted<'a>(
-    fd: i32,
+fn converted<'a, R: Read>(
+    file: &mut R,
     offsets: &[u8],
     bytes: &'a [u8],
     nulls: &[u8],
@@ -590,7 +592,7 @@ fn converted<'a>(
     kind: Kind,
     s: Sizes,
     t: Tally,
-) -> Tally {
+) -> io::Result<Tally> {
     let mut answer = [0u8; 40];
     let mut views2 = [0u8; 1024];
     let mut bytes2 = [0u8; 1024];
@@ -598,26 +600,26 @@ fn converted<'a>(
     let mut lens2 = [0usize; 16];
     let mut nulls2 = [0u8; 16];
     if !in_room(s) {
-        return stopped(t, true);
+        return Ok(stopped(t, true));
     }
-    if io::read_full(fd, &mut answer) < 40 {
-        return stopped(t, true);
+    if lists::read_full(file, &mut answer)? < 40 {
+        return Ok(stopped(t, true));
     }
     if !input::load(
-        fd,
+        file,
         &mut views2,
         &mut bytes2,
         &mut starts2,
         &mut lens2,
         &mut nulls2,
         s,
-    ) {
-        return stopped(t, true);
+    )? {
+        return Ok(stopped(t, true));
     }
-    judged(
+    Ok(judged(
         offsets, bytes, nulls, mapped, kind, &views2, &bytes2, &starts2, &lens2, &nulls2, s,
         &answer, t,
-    )
+    ))
 }
 
 fn both(a: bool, b: bool) -> bool {
@@ -628,14 +630,14 @@ fn both(a: bool, b: bool) -> bool {
 }
 
 // The next compaction, or the list's end.
-fn next_compaction(fd: i32, t: Tally) -> Tally {
+fn next_compaction<R: Read>(file: &mut R, t: Tally) -> io::Result<Tally> {
     let mut head = [0u8; 120];
-    let got = io::read_full(fd, &mut head);
+    let got = lists::read_full(file, &mut head)?;
     if got == 0 {
-        return stopped(t, false);
+        return Ok(stopped(t, false));
     }
     if got < 120 {
-        return stopped(t, true);
+        return Ok(stopped(t, true));
     }
     let most = input::word(&head, 1);
     let c = input::column_at(&head, 2);
@@ -647,18 +649,18 @@ fn next_compaction(fd: i32, t: Tally) -> Tally {
     let mut lens = [0usize; 16];
     let mut nulls = [0u8; 16];
     if !input::load(
-        fd,
+        file,
         &mut views,
         &mut bytes,
         &mut starts,
         &mut lens,
         &mut nulls,
         from,
-    ) {
-        return stopped(t, true);
+    )? {
+        return Ok(stopped(t, true));
     }
     compacted(
-        fd,
+        file,
         input::front(&views, from.views),
         input::front(&bytes, from.bytes),
         input::front_numbers(&starts, from.blocks),
@@ -672,14 +674,14 @@ fn next_compaction(fd: i32, t: Tally) -> Tally {
 }
 
 // The next offset column, or the list's end.
-fn next_offsets(fd: i32, t: Tally) -> Tally {
+fn next_offsets<R: Read>(file: &mut R, t: Tally) -> io::Result<Tally> {
     let mut head = [0u8; 80];
-    let got = io::read_full(fd, &mut head);
+    let got = lists::read_full(file, &mut head)?;
     if got == 0 {
-        return stopped(t, false);
+        return Ok(stopped(t, false));
     }
     if got < 80 {
-        return stopped(t, true);
+        return Ok(stopped(t, true));
     }
     let kind = input::kind_of(input::word(&head, 1));
     let count = input::word(&head, 2);
@@ -691,19 +693,19 @@ fn next_offsets(fd: i32, t: Tally) -> Tally {
     let mut bytes = [0u8; 1024];
     let mut nulls = [0u8; 16];
     if 256 < count {
-        return stopped(t, true);
+        return Ok(stopped(t, true));
     }
-    if !input::fill(fd, &mut offsets, 4 * count) {
-        return stopped(t, true);
+    if !input::fill(file, &mut offsets, 4 * count)? {
+        return Ok(stopped(t, true));
     }
-    if !input::fill(fd, &mut bytes, size) {
-        return stopped(t, true);
+    if !input::fill(file, &mut bytes, size)? {
+        return Ok(stopped(t, true));
     }
-    if !input::fill(fd, &mut nulls, map) {
-        return stopped(t, true);
+    if !input::fill(file, &mut nulls, map)? {
+        return Ok(stopped(t, true));
     }
     converted(
-        fd,
+        file,
         input::front(&offsets, 4 * count),
         input::front(&bytes, size),
         input::front(&nulls, map),
@@ -714,15 +716,15 @@ fn next_offsets(fd: i32, t: Tally) -> Tally {
     )
 }
 
-fn next(fd: i32, offsets: bool, t: Tally) -> Tally {
+fn next<R: Read>(file: &mut R, offsets: bool, t: Tally) -> io::Result<Tally> {
     if offsets {
-        return next_offsets(fd, t);
+        return next_offsets(file, t);
     }
-    next_compaction(fd, t)
+    next_compaction(file, t)
 }
 
 // A whole list, up to more records than any has.
-fn replay(fd: i32, offsets: bool) -> Tally {
+fn replay<R: Read>(file: &mut R, offsets: bool) -> io::Result<Tally> {
     let mut t = Tally {
         records: 0,
         accepted: 0,
@@ -733,43 +735,39 @@ fn replay(fd: i32, offsets: bool) -> Tally {
     };
     let mut k = 0usize;
     while k < 1000000 {
-        t = next(fd, offsets, t);
+        t = next(file, offsets, t)?;
         if t.ended {
-            return t;
+            return Ok(t);
         }
         k += 1;
     }
-    t
+    Ok(t)
 }
 
-fn say(name: &[u8], n: u64) {
-    io::write_all(STDOUT_FILENO, name);
-    io::print_decimal(STDOUT_FILENO, n);
-    io::write_all(STDOUT_FILENO, b"\n");
+fn say(rt: &impl Print, name: &str, n: u64) -> io::Result<()> {
+    println!(rt; "{name}{n}")
 }
 
-fn tell(t: Tally) {
-    say(b"records=", t.records);
-    say(b"accepted=", t.accepted);
-    say(b"wrong=", t.wrong);
-    say(b"first=", t.first);
-    say(b"torn=", if t.torn { 1 } else { 0 });
+fn tell(rt: &impl Print, t: Tally) -> io::Result<()> {
+    say(rt, "records=", t.records)?;
+    say(rt, "accepted=", t.accepted)?;
+    say(rt, "wrong=", t.wrong)?;
+    say(rt, "first=", t.first)?;
+    say(rt, "torn=", if t.torn { 1 } else { 0 })
 }
 
-// Replays a list that is open; says so where it isn't.
-fn list(fd: i32, offsets: bool) {
-    if fd < 0 {
-        io::write_all(STDOUT_FILENO, b"no list\n");
-        return;
-    }
-    let t = replay(fd, offsets);
-    libc::close(fd);
-    tell(t);
+// Replays the list of that name; says so where there is none.
+fn list(rt: &(impl Files + Print), name: &str, offsets: bool) -> io::Result<()> {
+    let Ok(mut file) = fs::open(rt, name) else {
+        return println!(rt; "no list");
+    };
+    let t = replay(&mut file, offsets)?;
+    tell(rt, t)
 }
 
-fn main() {
-    io::write_all(STDOUT_FILENO, b"compaction\n");
-    list(os::open_read(b"compaction.bin"), false);
-    io::write_all(STDOUT_FILENO, b"offsets\n");
-    list(os::open_read(b"offsets.bin"), true);
+fn main(rt: HostRuntime) -> io::Result<()> {
+    println!(rt; "compaction")?;
+    list(&rt, "compaction.bin", false)?;
+    println!(rt; "offsets")?;
+    list(&rt, "offsets.bin", true)
 }

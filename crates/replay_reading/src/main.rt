@@ -9,8 +9,9 @@ mod input;
 mod said;
 
 use column::Column;
-use libc::STDOUT_FILENO;
 use said::Said;
+use std::io::Read;
+use std::{fs, io};
 use through_walks::Stepped;
 
 #[derive(Clone, Copy)]
@@ -513,10 +514,8 @@ fn counted(t: Tally, q: &[u8; 80], right: bool) -> Tally {
     }
 }
 
-fn say(name: &[u8], n: u64) {
-    io::write_all(STDOUT_FILENO, name);
-    io::print_decimal(STDOUT_FILENO, n);
-    io::write_all(STDOUT_FILENO, b"\n");
+fn say(rt: &impl Print, name: &str, n: u64) -> io::Result<()> {
+    println!(rt; "{name}{n}")
 }
 
 // The tally of a list that ended inside a group.
@@ -534,8 +533,8 @@ fn torn(t: Tally) -> Tally {
 }
 
 // The n questions of a group.
-fn questions<'a>(
-    fd: i32,
+fn questions<'a, R: Read>(
+    from: &mut R,
     views: &'a [u8],
     bytes: &'a [u8],
     starts: &[usize],
@@ -550,13 +549,13 @@ fn questions<'a>(
     d: Column,
     n: u64,
     before: Tally,
-) -> Tally {
+) -> io::Result<Tally> {
     let mut t = before;
     let mut k = 0;
     while k < n {
         let mut q = [0u8; 80];
-        if io::read_full(fd, &mut q) < 80 {
-            return torn(t);
+        if lists::read_full(from, &mut q)? < 80 {
+            return Ok(torn(t));
         }
         let right = ask(
             views, bytes, starts, lens, nulls, c, views2, bytes2, starts2, lens2, nulls2, d, &q,
@@ -564,49 +563,49 @@ fn questions<'a>(
         t = counted(t, &q, right);
         k += 1;
     }
-    t
+    Ok(t)
 }
 
 // Fills a column's buffers; false where they hold less than its shape says, or the list ends.
-fn load(
-    fd: i32,
+fn load<R: Read>(
+    from: &mut R,
     views: &mut [u8],
     bytes: &mut [u8],
     starts: &mut [usize],
     lens: &mut [usize],
     nulls: &mut [u8],
     s: lists::Shape,
-) -> bool {
+) -> io::Result<bool> {
     if views.len() < s.views {
-        return false;
+        return Ok(false);
     }
     if bytes.len() < s.bytes {
-        return false;
+        return Ok(false);
     }
     if starts.len() < s.blocks {
-        return false;
+        return Ok(false);
     }
     if lens.len() < s.blocks {
-        return false;
+        return Ok(false);
     }
     if nulls.len() < s.nulls {
-        return false;
+        return Ok(false);
     }
-    if !lists::fill(fd, views, s.views) {
-        return false;
+    if !lists::fill(from, views, s.views)? {
+        return Ok(false);
     }
-    if !lists::fill(fd, bytes, s.bytes) {
-        return false;
+    if !lists::fill(from, bytes, s.bytes)? {
+        return Ok(false);
     }
-    if !lists::fill_table(fd, starts, lens, s.blocks) {
-        return false;
+    if !lists::fill_table(from, starts, lens, s.blocks)? {
+        return Ok(false);
     }
-    lists::fill(fd, nulls, s.nulls)
+    lists::fill(from, nulls, s.nulls)
 }
 
 // The questions of a group whose buffers are filled.
-fn asked<'a>(
-    fd: i32,
+fn asked<'a, R: Read>(
+    from: &mut R,
     views: &'a [u8],
     bytes: &'a [u8],
     starts: &[usize],
@@ -621,11 +620,11 @@ fn asked<'a>(
     b: lists::Shape,
     n: u64,
     t: Tally,
-) -> Tally {
+) -> io::Result<Tally> {
     let c = a.column;
     let d = b.column;
     questions(
-        fd,
+        from,
         lists::front(views, a.views),
         lists::front(bytes, a.bytes),
         lists::front_numbers(starts, a.blocks),
@@ -644,7 +643,7 @@ fn asked<'a>(
 }
 
 // A group: its head has been read.
-fn group(fd: i32, head: &[u8; 160], t: Tally) -> Tally {
+fn group<R: Read>(from: &mut R, head: &[u8; 160], t: Tally) -> io::Result<Tally> {
     let n = lists::word(head, 1);
     let a = lists::shape_at(head, 2);
     let b = lists::shape_at(head, 11);
@@ -654,15 +653,15 @@ fn group(fd: i32, head: &[u8; 160], t: Tally) -> Tally {
     let mut lens = [0usize; 16];
     let mut nulls = [0u8; 16];
     if !load(
-        fd,
+        from,
         &mut views,
         &mut bytes,
         &mut starts,
         &mut lens,
         &mut nulls,
         a,
-    ) {
-        return torn(t);
+    )? {
+        return Ok(torn(t));
     }
     let mut views2 = [0u8; 1024];
     let mut bytes2 = [0u8; 1024];
@@ -670,28 +669,28 @@ fn group(fd: i32, head: &[u8; 160], t: Tally) -> Tally {
     let mut lens2 = [0usize; 16];
     let mut nulls2 = [0u8; 16];
     if !load(
-        fd,
+        from,
         &mut views2,
         &mut bytes2,
         &mut starts2,
         &mut lens2,
         &mut nulls2,
         b,
-    ) {
-        return torn(t);
+    )? {
+        return Ok(torn(t));
     }
     asked(
-        fd, &views, &bytes, &starts, &lens, &nulls, a, &views2, &bytes2, &starts2, &lens2, &nulls2,
-        b, n as u64, t,
+        from, &views, &bytes, &starts, &lens, &nulls, a, &views2, &bytes2, &starts2, &lens2,
+        &nulls2, b, n as u64, t,
     )
 }
 
 // The next group, or the list's end.
-fn turn(fd: i32, t: Tally) -> Tally {
+fn turn<R: Read>(from: &mut R, t: Tally) -> io::Result<Tally> {
     let mut head = [0u8; 160];
-    let got = io::read_full(fd, &mut head);
+    let got = lists::read_full(from, &mut head)?;
     if got == 0 {
-        return Tally {
+        return Ok(Tally {
             groups: t.groups,
             questions: t.questions,
             records: t.records,
@@ -700,10 +699,10 @@ fn turn(fd: i32, t: Tally) -> Tally {
             first: t.first,
             torn: t.torn,
             ended: true,
-        };
+        });
     }
     if got < 160 {
-        return torn(t);
+        return Ok(torn(t));
     }
     let begun = Tally {
         groups: more(t.groups),
@@ -715,11 +714,11 @@ fn turn(fd: i32, t: Tally) -> Tally {
         torn: false,
         ended: false,
     };
-    group(fd, &head, begun)
+    group(from, &head, begun)
 }
 
 // All groups, up to more than any list has.
-fn replay(fd: i32) -> Tally {
+fn replay<R: Read>(from: &mut R) -> io::Result<Tally> {
     let mut t = Tally {
         groups: 0,
         questions: 0,
@@ -732,28 +731,25 @@ fn replay(fd: i32) -> Tally {
     };
     let mut k = 0usize;
     while k < 1000000 {
-        t = turn(fd, t);
+        t = turn(from, t)?;
         if t.ended {
-            return t;
+            return Ok(t);
         }
         k += 1;
     }
-    t
+    Ok(t)
 }
 
-fn main() {
-    let fd = os::open_read(b"reading.bin");
-    if fd < 0 {
-        io::write_all(STDOUT_FILENO, b"no reading.bin\n");
-        return;
-    }
-    let t = replay(fd);
-    libc::close(fd);
-    say(b"groups=", t.groups);
-    say(b"questions=", t.questions);
-    say(b"records=", t.records);
-    say(b"walks=", t.walks);
-    say(b"wrong=", t.wrong);
-    say(b"first=", t.first);
-    say(b"torn=", if t.torn { 1 } else { 0 });
+fn main(rt: HostRuntime) -> io::Result<()> {
+    let Ok(mut from) = fs::open(&rt, "reading.bin") else {
+        return println!(rt; "no reading.bin");
+    };
+    let t = replay(&mut from)?;
+    say(&rt, "groups=", t.groups)?;
+    say(&rt, "questions=", t.questions)?;
+    say(&rt, "records=", t.records)?;
+    say(&rt, "walks=", t.walks)?;
+    say(&rt, "wrong=", t.wrong)?;
+    say(&rt, "first=", t.first)?;
+    say(&rt, "torn=", if t.torn { 1 } else { 0 })
 }

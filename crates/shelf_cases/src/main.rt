@@ -3,10 +3,12 @@
 #![tactic(auto)]
 
 ghost use Rattle.std.specs.Prelude.{◌≤◌, length};
-ghost use Rattle.io.specs.Counts.{IsPrefixLen};
 
 use column::Column;
-use libc::STDOUT_FILENO;
+use std::env::{Env, FillError};
+use std::io::Read;
+use std::rt::Files;
+use std::{fs, io, str};
 use whole::Place;
 
 const MOST: usize = 16385;
@@ -15,29 +17,29 @@ const MOST: usize = 16385;
 const RECORDS: u64 = 1000000;
 
 // Whether n bytes came, at the start of want.
-fn read_part(fd: i32, want: &mut [u8], n: usize) -> bool
+fn read_part<R: Read>(file: &mut R, want: &mut [u8], n: usize) -> io::Result<bool>
     requires { n ≤ length want.old }
-    ensures { IsPrefixLen n want.new }
+    ensures { n ≤ length want.new }
 {
-    io::read_full(fd, &mut want[..n]) == n
+    Ok(lists::read_full(file, &mut want[..n])? == n)
 }
 
 // Whether a file goes on with these bytes.
-fn goes_on(fd: i32, text: &[u8]) -> bool {
+fn goes_on<R: Read>(file: &mut R, text: &[u8]) -> io::Result<bool> {
     let mut want = [0u8; whole::ROOM];
     let n = text.len();
     if whole::ROOM < n {
-        return false;
+        return Ok(false);
     }
-    if !read_part(fd, &mut want, n) {
-        return false;
+    if !read_part(file, &mut want, n)? {
+        return Ok(false);
     }
-    order::same(&want[..n], text)
+    Ok(order::same(&want[..n], text))
 }
 
 // Whether a file goes on with the pieces from a place on.
-fn same_pieces<'a>(
-    fd: i32,
+fn same_pieces<'a, R: Read>(
+    file: &mut R,
     views: &'a [u8; answering::VIEWS],
     bytes: &'a [u8; answering::BYTES],
     starts: &[usize; 1],
@@ -45,22 +47,22 @@ fn same_pieces<'a>(
     nulls: &[u8; answering::NULLS],
     c: Column,
     first: Place,
-) -> bool {
+) -> io::Result<bool> {
     let mut out = [0u8; whole::ROOM];
     let mut p = first;
     while !whole::ended(p) {
         let r = whole::next_piece(views, bytes, starts, lens, nulls, c, p, &mut out);
         let w = r.written;
-        if !goes_on(fd, &out[..w]) {
-            return false;
+        if !goes_on(file, &out[..w])? {
+            return Ok(false);
         }
         p = r.place;
     }
-    true
+    Ok(true)
 }
 
 // Whether a file goes on with the answer to an input.
-fn same_answer(fd: i32, input: &[u8]) -> bool {
+fn same_answer<R: Read>(file: &mut R, input: &[u8]) -> io::Result<bool> {
     let mut views = [0u8; answering::VIEWS];
     let mut bytes = [0u8; answering::BYTES];
     let mut starts = [0usize; 1];
@@ -78,54 +80,54 @@ fn same_answer(fd: i32, input: &[u8]) -> bool {
     );
     let c = begun.column;
     let p = begun.place;
-    same_pieces(fd, &views, &bytes, &starts, &lens, &nulls, c, p)
+    same_pieces(file, &views, &bytes, &starts, &lens, &nulls, c, p)
 }
 
-fn at_end(fd: i32) -> bool {
+fn at_end<R: Read>(file: &mut R) -> io::Result<bool> {
     let mut one = [0u8; 1];
-    io::read_full(fd, &mut one) == 0
+    Ok(lists::read_full(file, &mut one)? == 0)
 }
 
-fn open(i: usize) -> i32 {
+// Argument i, an empty one where there is none or it has no room.
+fn argument<'a>(rt: &impl Env, i: usize, name: &'a mut [u8]) -> &'a str {
+    match rt.arg(i, name) {
+        Ok(n) => str::from_utf8(&name[..n]).unwrap_or(""),
+        Err(_) => "",
+    }
+}
+
+fn open<R: Env + Files>(rt: &R, i: usize) -> io::Result<R::File> {
     let mut name = [0u8; 60];
-    let n = os::arg(i, &mut name);
-    os::open_read(&name[..n])
+    fs::open(rt, argument(rt, i, &mut name))
 }
 
 // Whether the answer to the file that argument i names is the file that argument j names, to its last byte.
-fn case_right(i: usize, j: usize) -> bool {
+fn case_right(rt: &(impl Env + Files), i: usize, j: usize) -> io::Result<bool> {
     let mut input = [0u8; MOST];
-    let from = open(i);
-    let fd = open(j);
-    if from < 0 {
-        return false;
+    let Ok(mut from) = open(rt, i) else {
+        return Ok(false);
+    };
+    let Ok(mut file) = open(rt, j) else {
+        return Ok(false);
+    };
+    let n = lists::read_full(&mut from, &mut input)?;
+    if !same_answer(&mut file, &input[..n])? {
+        return Ok(false);
     }
-    if fd < 0 {
-        return false;
-    }
-    let n = io::read_full(from, &mut input);
-    if !same_answer(fd, &input[..n]) {
-        return false;
-    }
-    let last = at_end(fd);
-    libc::close(from);
-    libc::close(fd);
-    last
+    at_end(&mut file)
 }
 
-fn say(right: bool) {
+fn say(rt: &impl Print, right: bool) -> io::Result<()> {
     if right {
-        io::write_all(STDOUT_FILENO, b" right\n");
-        return;
+        return println!(rt; " right");
     }
-    io::write_all(STDOUT_FILENO, b" WRONG\n");
+    println!(rt; " WRONG")
 }
 
-fn one_case(i: usize, j: usize) {
+fn one_case(rt: &(impl Env + Files + Print), i: usize, j: usize) -> io::Result<()> {
     let mut name = [0u8; 60];
-    let n = os::arg(i, &mut name);
-    io::write_all(STDOUT_FILENO, &name[..n]);
-    say(case_right(i, j));
+    print!(rt; "{}", argument(rt, i, &mut name))?;
+    say(rt, case_right(rt, i, j)?)
 }
 
 // What a record of vectors.bin was.
@@ -136,63 +138,73 @@ const RIGHT: u8 = 1;
 const END: u8 = 2;
 
 // The next record.
-fn one_vector(fd: i32) -> u8 {
+fn one_vector<R: Read>(file: &mut R) -> io::Result<u8> {
     let mut input = [0u8; MOST];
     let mut head = [0u8; 24];
-    if io::read_full(fd, &mut head) != 24 {
-        return END;
+    if lists::read_full(file, &mut head)? != 24 {
+        return Ok(END);
     }
     let n = words::le64(&head, 8);
     if 16385 < n {
-        return WRONG;
+        return Ok(WRONG);
     }
     let m = n as usize;
-    if !read_part(fd, &mut input, m) {
-        return WRONG;
+    if !read_part(file, &mut input, m)? {
+        return Ok(WRONG);
     }
-    if same_answer(fd, &input[..m]) {
-        return RIGHT;
+    if same_answer(file, &input[..m])? {
+        return Ok(RIGHT);
     }
-    WRONG
+    Ok(WRONG)
 }
 
 // All records, each at the place where the answer before it ended: an answer that is too short or too long is told at the record after it.
-fn vectors(fd: i32) {
+fn vectors<R: Read>(rt: &impl Print, file: &mut R) -> io::Result<()> {
     let mut k: u64 = 0;
     while k < RECORDS {
-        let turn = one_vector(fd);
+        let turn = one_vector(file)?;
         if turn == WRONG {
             break;
         }
         if turn == END {
-            io::write_all(STDOUT_FILENO, b"vectors ");
-            io::print_decimal(STDOUT_FILENO, k);
-            say(true);
-            return;
+            print!(rt; "vectors {k}")?;
+            return say(rt, true);
         }
         k += 1;
     }
-    io::write_all(STDOUT_FILENO, b"vectors");
-    say(false);
+    print!(rt; "vectors")?;
+    say(rt, false)
+}
+
+// How many arguments there are, up to more than name the cases.
+fn count_arguments(rt: &impl Env) -> usize
+    ensures { result ≤ 1000000 }
+{
+    let mut name = [0u8; 60];
+    for i in 0..1000000usize {
+        if let Err(FillError::NotPresent) = rt.arg(i + 1, &mut name) {
+            return i;
+        }
+    }
+    1000000
 }
 
 // The cases of so many pairs of arguments.
-fn cases(count: usize)
+fn cases(rt: &(impl Env + Files + Print), count: usize) -> io::Result<()>
     requires { count ≤ 9223372036854775807 }
 {
     let mut k = 0;
     while k < count {
-        one_case(2 * k + 1, 2 * k + 2);
+        one_case(rt, 2 * k + 1, 2 * k + 2)?;
         k += 1;
     }
+    Ok(())
 }
 
-fn main() {
-    cases(os::arg_count() / 2);
-    let fd = os::open_read(b"vectors.bin");
-    if fd < 0 {
-        return;
-    }
-    vectors(fd);
-    libc::close(fd);
+fn main(rt: HostRuntime) -> io::Result<()> {
+    cases(&rt, (count_arguments(&rt) + 1) / 2)?;
+    let Ok(mut file) = fs::open(&rt, "vectors.bin") else {
+        return Ok(());
+    };
+    vectors(&rt, &mut file)
 }

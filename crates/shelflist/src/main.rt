@@ -1,17 +1,20 @@
 // Lists the column that the lines of standard input make: reads, calls, and writes piece by piece.
 // Where a read or a write fails it stops and says so on standard error.
-// Its status, which `--status` asks for (crate `console`): 0 for a listing, 1 for a refused input, 2 where a read or a write failed.
+// Its status: 0 for a listing, 1 for a refused input, 2 where a read or a write failed.
 #![tactic(auto)]
 
 use column::Column;
-use libc::STDOUT_FILENO;
+use std::io;
+use std::io::Write;
+use std::process::ExitCode;
 use whole::Place;
 
 // One byte more than an input may have, so that too much is seen.
 const MOST: usize = 16385;
 
 // Writes the pieces from a place on, until all are written or a write fails.
-fn write_pieces<'a>(
+fn write_pieces<'a, W: Write>(
+    to: &mut W,
     views: &'a [u8; answering::VIEWS],
     bytes: &'a [u8; answering::BYTES],
     starts: &[usize; 1],
@@ -19,22 +22,20 @@ fn write_pieces<'a>(
     nulls: &[u8; answering::NULLS],
     c: Column,
     first: Place,
-) -> bool {
+) -> io::Result<()> {
     let mut out = [0u8; whole::ROOM];
     let mut p = first;
     while !whole::ended(p) {
         let r = whole::next_piece(views, bytes, starts, lens, nulls, c, p, &mut out);
         let w = r.written;
-        if !io::write_all(STDOUT_FILENO, &out[..w]) {
-            return false;
-        }
+        to.write_all(&out[..w])?;
         p = r.place;
     }
-    true
+    Ok(())
 }
 
 // Writes the answer, and answers the status. A pipe that was closed is no news.
-fn answer(input: &[u8]) -> u8 {
+fn answer(rt: &(impl Print + Eprint), input: &[u8]) -> u8 {
     let mut views = [0u8; answering::VIEWS];
     let mut bytes = [0u8; answering::BYTES];
     let mut starts = [0usize; 1];
@@ -52,26 +53,24 @@ fn answer(input: &[u8]) -> u8 {
     );
     let c = begun.column;
     let p = begun.place;
-    if !write_pieces(&views, &bytes, &starts, &lens, &nulls, c, p) {
-        if os::errno() != libc::EPIPE {
-            os::fail(b"shelflist: standard output");
-        }
-        return b'2';
+    let mut to = io::writer(rt);
+    if let Err(why) = write_pieces(&mut to, &views, &bytes, &starts, &lens, &nulls, c, p) {
+        console::tell(rt, "shelflist: standard output", &why);
+        return 2;
     }
     if console::is_refusal(p) {
-        return b'1';
+        return 1;
     }
-    b'0'
+    0
 }
 
-fn main() {
+fn main(rt: HostRuntime) -> ExitCode {
     let mut input = [0u8; MOST];
-    let got = console::read_all(&mut input);
-    if got.failed {
-        os::fail(b"shelflist: standard input");
-        console::tell(b'2');
-        return;
+    match console::read_all(&mut rt.reader(), &mut input) {
+        Ok(n) => ExitCode::from(answer(&rt, &input[..n])),
+        Err(why) => {
+            console::tell(&rt, "shelflist: standard input", &why);
+            ExitCode::from(2)
+        }
     }
-    let n = got.count;
-    console::tell(answer(&input[..n]));
 }

@@ -1,6 +1,6 @@
 // Writes the mark of each row of the column that the lines of standard input make, and the four counts: reads, calls, and writes piece by piece.
 // Where a read or a write fails it stops and says so on standard error.
-// Its status, which `--status` asks for (crate `console`): 0 for marks, 1 for a refused input, 2 where a read or a write failed.
+// Its status: 0 for marks, 1 for a refused input, 2 where a read or a write failed.
 #![tactic(auto)]
 
 ghost use Rattle.std.specs.Prelude.{◌≡◌};
@@ -9,14 +9,17 @@ ghost use Rattle.marking.specs.Text.{marked_answer};
 ghost use Rattle.marking.specs.Left.{marks_left};
 
 use column::Column;
-use libc::STDOUT_FILENO;
+use std::io;
+use std::io::Write;
+use std::process::ExitCode;
 use whole::Place;
 
 // One byte more than an input may have, so that too much is seen.
 const MOST: usize = 16385;
 
 // Writes the pieces from a place on, until all are written or a write fails. What is left to write there is the answer to the input, whole.
-fn write_pieces<'a>(
+fn write_pieces<'a, W: Write>(
+    to: &mut W,
     views: &'a [u8; answering::VIEWS],
     bytes: &'a [u8; answering::BYTES],
     starts: &[usize; 1],
@@ -25,7 +28,7 @@ fn write_pieces<'a>(
     c: Column,
     first: Place,
     input: &[u8],
-) -> bool
+) -> io::Result<()>
     requires { marks_left (lent_of views bytes starts lens nulls) c first ≡ marked_answer input.now }
 {
     let mut out = [0u8; whole::ROOM];
@@ -33,16 +36,14 @@ fn write_pieces<'a>(
     while !whole::ended(p) {
         let r = marking::next_piece(views, bytes, starts, lens, nulls, c, p, &mut out);
         let w = r.written;
-        if !io::write_all(STDOUT_FILENO, &out[..w]) {
-            return false;
-        }
+        to.write_all(&out[..w])?;
         p = r.place;
     }
-    true
+    Ok(())
 }
 
 // Writes the answer, and answers the status. A pipe that was closed is no news.
-fn answer(input: &[u8]) -> u8 {
+fn answer(rt: &(impl Print + Eprint), input: &[u8]) -> u8 {
     let mut views = [0u8; answering::VIEWS];
     let mut bytes = [0u8; answering::BYTES];
     let mut starts = [0usize; 1];
@@ -60,26 +61,24 @@ fn answer(input: &[u8]) -> u8 {
     );
     let c = begun.column;
     let p = begun.place;
-    if !write_pieces(&views, &bytes, &starts, &lens, &nulls, c, p, input) {
-        if os::errno() != libc::EPIPE {
-            os::fail(b"shelfmarks: standard output");
-        }
-        return b'2';
+    let mut to = io::writer(rt);
+    if let Err(why) = write_pieces(&mut to, &views, &bytes, &starts, &lens, &nulls, c, p, input) {
+        console::tell(rt, "shelfmarks: standard output", &why);
+        return 2;
     }
     if console::is_refusal(p) {
-        return b'1';
+        return 1;
     }
-    b'0'
+    0
 }
 
-fn main() {
+fn main(rt: HostRuntime) -> ExitCode {
     let mut input = [0u8; MOST];
-    let got = console::read_all(&mut input);
-    if got.failed {
-        os::fail(b"shelfmarks: standard input");
-        console::tell(b'2');
-        return;
+    match console::read_all(&mut rt.reader(), &mut input) {
+        Ok(n) => ExitCode::from(answer(&rt, &input[..n])),
+        Err(why) => {
+            console::tell(&rt, "shelfmarks: standard input", &why);
+            ExitCode::from(2)
+        }
     }
-    let n = got.count;
-    console::tell(answer(&input[..n]));
 }

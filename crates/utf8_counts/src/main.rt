@@ -3,7 +3,8 @@
 
 ghost use Rattle.std.specs.Prelude.{◌≤◌};
 
-use libc::STDOUT_FILENO;
+use std::io;
+
 // 1 if the first n bytes are a well-formed text.
 fn formed(buf: &[u8], n: usize) -> u64
     ensures { result ≤ 1 }
@@ -30,14 +31,8 @@ fn count(n: usize, strings: u64) -> u64 {
     found
 }
 
-fn say(name: &[u8], n: u64) {
-    io::write_all(STDOUT_FILENO, name);
-    io::print_decimal(STDOUT_FILENO, n);
-    io::write_all(STDOUT_FILENO, b"\n");
-}
-
-fn main() {
-    say(b"one=", count(1, 256));
-    say(b"two=", count(2, 65536));
-    say(b"three=", count(3, 16777216));
+fn main(rt: HostRuntime) -> io::Result<()> {
+    println!(rt; "one={}", count(1, 256))?;
+    println!(rt; "two={}", count(2, 65536))?;
+    println!(rt; "three={}", count(3, 16777216))
 }

@@ -2,7 +2,7 @@
 """Gives random inputs, good and bad, to the proved program `shelfmarks` and compares what it writes with what the lines say, read once more here; the marks are
 those of the second recogniser, bench/marks/second.py. Where an input is refused, `shelflist` has to say the same. Then `./shelfmarks` at odd ends of its streams.
 
-    bench/shelf/marks.py [COUNT [SEED]]         2,000 inputs by seed 1; wants `rt check shelfmarks shelflist` before it
+    bench/shelf/marks.py [COUNT [SEED]]         2,000 inputs by seed 1; wants ./shelflist and ./shelfmarks run once before it
 """
 import pathlib
 import random
@@ -106,7 +106,10 @@ def some(rng):
 
 
 def run(program, text):
-    return subprocess.run([str(TOP / 'target/bin' / program)], input=text, stdout=subprocess.PIPE, check=True).stdout
+    ran = subprocess.run([str(TOP / 'crates' / program / 'out' / program)], input=text, stdout=subprocess.PIPE)
+    if ran.returncode not in (0, 1):
+        ran.check_returncode()
+    return ran.stdout
 
 
 # what the shell runs, what is written, what standard error says, and the status
@@ -115,10 +118,10 @@ STREAMS = (
     ('dd if=crates/shelfmarks/stdin bs=1 2>/dev/null | ./shelfmarks | cmp - crates/shelfmarks/stdout', '', '', 0),
     ('./shelfmarks crates/shelfmarks/stdin | { sleep 0.2; cat; } | cmp - crates/shelfmarks/stdout', '', '', 0),
     ('printf "code=A\\ncode" | ./shelfmarks', 'refused=2\n', '', 1),
-    ('./shelfmarks crates/shelfmarks/stdin >/dev/full', '', 'shelfmarks: standard output: No space left on device\n', 2),
+    ('./shelfmarks crates/shelfmarks/stdin >/dev/full', '', 'shelfmarks: standard output: No space left on device (os error 28)\n', 2),
     ('./shelfmarks crates/shelfmarks/stdin | head -c 4', 'date', '', 0),
-    ('./shelfmarks samples', '', 'shelfmarks: standard input: Is a directory\n', 2),
-    ('./shelfmarks <&-', '', 'shelfmarks: standard input: Bad file descriptor\n', 2),
+    ('./shelfmarks samples', '', 'shelfmarks: standard input: Is a directory (os error 21)\n', 2),
+    ('./shelfmarks <&-', '', 'shelfmarks: standard input: Bad file descriptor (os error 9)\n', 2),
     ('./shelfmarks no_such_file', '', "shelfmarks: no_such_file can't be read\n", 2),
     ('./shelfmarks a b', '', 'shelfmarks: usage: ./shelfmarks [FILE]\n', 2),
 )

@@ -1,4 +1,5 @@
 -- Good lines are a run of calls, none of which is refused. Assumes nothing.
+use Rattle.bounds.specs.Refusals.{accepted}
 use mathlib.Core.Path.{◌≡◌, refl, sym, ap, subst, transport}
 use mathlib.Core.Bool.{Bool, true, false, true≢false}
 use mathlib.Core.List.{List, [], ◌∷◌, ◌++◌, map, append-nil, append_assoc}
@@ -7,7 +8,6 @@ use native.Mathlib.Nat.{add-zero}
 use native.Mathlib.Omega.{arith}
 use lib.ListN.{length, take, drop, length-append}
 use Rattle.basis.specs.Pick.{pick}
-use Rattle.bounds.specs.declared.Why.TheVariants.{Accepted}
 use Rattle.order.specs.Order.{same}
 use Rattle.order.proofs.OrderLaws.{same_true}
 use Rattle.views.specs.View.{is_short}
@@ -35,7 +35,7 @@ null-empty l e = go (same (take 5 l) code_mark) (same l null_mark) refl e
     go false false h e = let z : ◌≡◌ {A = ℕ} 0 1 = cc in absurd (omega arith)
 
 record Step (m n : ℕ) (t : Line) (x : List ℕ) (b : Builder) (xs : List Cell) : Type 0 where
-  accepted : why (call_for t x) b ≡ Accepted
+  accepted : why (call_for t x) b ≡ accepted
   leaves : added_by t x b ≡ put (call_for t x) b
   inv : Inv m (put (call_for t x) b) (xs ++ line_cell t x ∷ [])
   numbers : Numbers (n + long_of x) (put (call_for t x) b)

@@ -8,9 +8,7 @@ use native.Mathlib.Omega.{arith}
 use lib.Dec.{eqb}
 use Rattle.basis.specs.Pick.{pick}
 use Rattle.bounds.specs.Bounds.{row-limit-is, block-limit-is, byte-limit-is}
-use Rattle.bounds.specs.Refusals.{refuse, if_accepted}
-use Rattle.bounds.specs.declared.Why.{Why}
-use Rattle.bounds.specs.declared.Why.TheVariants.{Accepted}
+use Rattle.bounds.specs.Refusals.{refuse, if_accepted, accepted, Why}
 use Rattle.column.specs.Lent.{lent, row_room, block_room, data_room}
 use Rattle.column.proofs.FitLaws.{length-table}
 use Rattle.builder.specs.State.{Builder, rows_room, all_blocks}
@@ -55,7 +53,7 @@ rows-cells k (l ∷ ls) g = go (is_bad_line (says l)) refl g (rows-cells (suc k)
 
 -- ---- the start
 
-started : why_start shelf_settings ≡ Accepted
+started : why_start shelf_settings ≡ accepted
 unfolding why_start refuse
 started = refl
 
@@ -134,7 +132,7 @@ module _ (s vs bs ss ns ms ps : List ℕ) (e : Enough vs bs ss ns ms) (g : GoodI
   ran : Ran (map call_of (lines s)) (first vs bs ss ns ms ps) b
   ran = subst (Ran (map call_of (lines s)) (first vs bs ss ns ms ps)) same ended.ran
 
-  finishes : why_finish b ≡ Accepted
+  finishes : why_finish b ≡ accepted
   unfolding why_finish refuse
   finishes = rw (are-fits b inv.fits)
 

@@ -13,8 +13,7 @@ use lib.Dec.{ltb}
 use lib.ListN.{length}
 use Rattle.basis.specs.Pick.{pick}
 use Rattle.bounds.specs.Bounds.{byte_limit, byte-limit-is}
-use Rattle.bounds.specs.Refusals.{refuse, refuse-no}
-use Rattle.bounds.specs.declared.Why.TheVariants.{Accepted}
+use Rattle.bounds.specs.Refusals.{refuse, refuse-no, accepted}
 use Rattle.growth.specs.Growing.{start_size, largest_size, next_size, size_of}
 use Rattle.growth.specs.declared.Growth.TheVariants.{Doubling}
 use Rattle.views.specs.View.{short_most, is_short, short_view, zero_view}
@@ -53,7 +52,7 @@ unfolding found found_by
 none_found b x e = rw e
 
 module _ (b : Builder) (n : ℕ) (a : Numbers n b) (k : ℕ) (r : n + k ≤ 16379) where
-  lay-open : 0 < n → why_lay b.state (block_room b.lent) (data_room b.lent) k ≡ Accepted
+  lay-open : 0 < n → why_lay b.state (block_room b.lent) (data_room b.lent) k ≡ accepted
   unfolding why_lay fits_open refuse
   lay-open h =
       rw (
@@ -62,7 +61,7 @@ module _ (b : Builder) (n : ℕ) (a : Numbers n b) (k : ℕ) (r : n + k ≤ 1637
         le-ltb (data_room b.lent) (used b.state + k) (omega (arith, a.fill, a.base, a.bytes)),
       )
 
-  lay-first : n ≡ 0 → why_lay b.state (block_room b.lent) (data_room b.lent) k ≡ Accepted
+  lay-first : n ≡ 0 → why_lay b.state (block_room b.lent) (data_room b.lent) k ≡ accepted
   unfolding why_lay fits_open refuse all_blocks
   lay-first h =
       let z : b.state.fill ≡ 0 = a.fill ∙ h in
@@ -72,24 +71,24 @@ module _ (b : Builder) (n : ℕ) (a : Numbers n b) (k : ℕ) (r : n + k ≤ 1637
         le-ltb (data_room b.lent) (b.state.base + 0 + k) (omega (arith, a.base, a.bytes)),
       )
 
-  pub why-store : (x : List ℕ) → length x ≡ k → why_store b x ≡ Accepted
+  pub why-store : (x : List ℕ) → length x ≡ k → why_store b x ≡ accepted
   unfolding why_store
   why-store x e = go (is_short (length x))
     where
-      lays : why_lay b.state (block_room b.lent) (data_room b.lent) k ≡ Accepted
+      lays : why_lay b.state (block_room b.lent) (data_room b.lent) k ≡ accepted
       lays = by_cases (ℕ_discrete n 0) lay-first (λ q. lay-open (omega arith))
 
-      go : (t : Bool) → pick t Accepted (pick (is_row (found b x)) Accepted (why_lay b.state (block_room b.lent) (data_room b.lent) (length x))) ≡ Accepted
+      go : (t : Bool) → pick t accepted (pick (is_row (found b x)) accepted (why_lay b.state (block_room b.lent) (data_room b.lent) (length x))) ≡ accepted
       go true = refl
       go false = rw (none_found b x a.merging, e) lays
 
 -- rows of a builder that shows cells, and whose room is m
 module _ {m : ℕ} (b : Builder) (xs : List Cell) (i : Inv m b xs) (h : length xs < m) where
-  pub why-null : why_null b ≡ Accepted
+  pub why-null : why_null b ≡ accepted
   unfolding why_null refuse
   why-null = rw (are-fits b i.fits, lt-leb (rows_room b) b.state.rows (omega (arith, rows_are b xs i, i.room)))
 
-  pub why-value : (n : ℕ) → Numbers n b → (x : List ℕ) → n + length x ≤ 16379 → why_values 1 b x ≡ Accepted
+  pub why-value : (n : ℕ) → Numbers n b → (x : List ℕ) → n + length x ≤ 16379 → why_values 1 b x ≡ accepted
   unfolding why_values why_rows
   why-value n a x r =
       let fits : not (fits_state b) ≡ false = rw (are-fits b i.fits) in

@@ -9,8 +9,7 @@ use borrow.Author.Tests.{le-ltb}
 use lib.ListN.{length, drop, get_or, drop_of_length-le}
 use lib.Seq.{drop-cons}
 use Rattle.basis.specs.Pick.{pick}
-use Rattle.bounds.specs.Refusals.{refuse}
-use Rattle.bounds.specs.declared.Why.TheVariants.{Accepted}
+use Rattle.bounds.specs.Refusals.{refuse, accepted, answered}
 use Rattle.null_bits.specs.Bits.{count_nulls, null_of}
 use Rattle.null_bits.specs.Bits as bits
 use Rattle.views.specs.View.{is_short, length_of}
@@ -19,7 +18,7 @@ use Rattle.column.specs.Lent.{Lent}
 use Rattle.column.specs.Meaning.{row_view, row_valid}
 use Rattle.showing.specs.Shows.{Shows}
 use Rattle.showing.proofs.ShowsLaws.{shows-row, shows-bit}
-use Rattle.reading.specs.Reading.{why_fit, why_run, bit_when, bit_of, null_run, bytes_len, total_bytes_len, buffer_bytes, total_buffer_bytes_used}
+use Rattle.reading.specs.Reading.{why_fit, why_run, bit_of, null_run, bytes_len, total_bytes_len, buffer_bytes, total_buffer_bytes_used}
 use Rattle.promise.specs.Calls.{Cell, no_value, bytes_in, valid_in}
 use Rattle.promise.proofs.Kept.{rows-shown, value-shown, bit-shown, cell-bytes, cell-bit}
 use Rattle.whole.specs.Answer as answer
@@ -73,7 +72,7 @@ long-sum (x ∷ xs) = ap (λ (n : ℕ). pick (is_short (length x.bytes)) 0 (leng
 
 -- ---- the column
 
-bit-valid : (t : Bool) → bit_valid (bit_when Accepted t) ≡ t
+bit-valid : (t : Bool) → bit_valid (answered accepted t) ≡ t
 bit-valid true = refl
 bit-valid false = refl
 

@@ -1,5 +1,5 @@
 -- A block and a view of a completed block added: the calls' verdicts test by test, and their contracts from what their parts leave. Assumes nothing.
-use Rattle.std.specs.Prelude.{◌≡◌, Bool, true, false, not, ◌&&◌, ℕ, zero, suc, ◌+◌, ◌-◌, ◌*◌, min, ◌≤◌, ◌<◌, ltb, get_or, take, drop}
+use Rattle.std.specs.Prelude.{◌≡◌, Bool, true, false, not, ◌&&◌, ℕ, zero, suc, ◌+◌, ◌-◌, ◌*◌, min, ◌≤◌, ◌<◌, ltb, get_or, take, drop, Err}
 use Rattle.std.proofs.Math.Path.{refl, sym, ap}
 use Rattle.std.proofs.Common.{◌∙◌, length-set}
 use mathlib.Core.List.{List, [], ◌∷◌}
@@ -10,10 +10,8 @@ use Rattle.std.proofs.Math.ListN.{length, set}
 use Rattle.std.proofs.Math.Seq.{paste, drop-drop}
 use Rattle.basis.specs.Pick.{pick, part-is}
 use Rattle.bounds.specs.Bounds.{block_limit, byte_limit}
-use Rattle.bounds.specs.Refusals.{refuse, is_accepted, accepted-both, accepted-yes, accepted-no}
+use Rattle.bounds.specs.Refusals.{refuse, is_accepted, accepted-both, accepted-yes, accepted-no, accepted, Why}
 use Rattle.bounds.specs.declared.Refusal.TheVariants.{Fit, TooLong, RowRoom, BlockRoom, DataRoom, NoBlock, Range, NotUtf8}
-use Rattle.bounds.specs.declared.Why.{Why}
-use Rattle.bounds.specs.declared.Why.TheVariants.{Accepted, Refused}
 use Rattle.null_bits.specs.Bits.{put_bit}
 use Rattle.views.specs.View.{make_view}
 use Rattle.column.specs.declared.Block.{Block}
@@ -59,15 +57,15 @@ recorded-length s vs bs ss ns ms = by (is_open s) ∙ length-table ss ns
 -- ---- 6 and 7
 
 module _ (s : State) (blocks bytes n m : ℕ) where
-  pub room-no-block : blocks < all_blocks s + n → Refused BlockRoom ≡ why_room s blocks bytes n m
+  pub room-no-block : blocks < all_blocks s + n → Err BlockRoom ≡ why_room s blocks bytes n m
   unfolding why_room refuse
   room-no-block h = rw (lt-ltb blocks (all_blocks s + n) h)
 
-  pub room-no-data : all_blocks s + n ≤ blocks → bytes < used s + m → Refused DataRoom ≡ why_room s blocks bytes n m
+  pub room-no-data : all_blocks s + n ≤ blocks → bytes < used s + m → Err DataRoom ≡ why_room s blocks bytes n m
   unfolding why_room refuse
   room-no-data h g = rw (le-ltb blocks (all_blocks s + n) h, lt-ltb bytes (used s + m) g)
 
-  pub room-fine : all_blocks s + n ≤ blocks → used s + m ≤ bytes → Accepted ≡ why_room s blocks bytes n m
+  pub room-fine : all_blocks s + n ≤ blocks → used s + m ≤ bytes → accepted ≡ why_room s blocks bytes n m
   unfolding why_room refuse
   room-fine h g = rw (le-ltb blocks (all_blocks s + n) h, le-ltb bytes (used s + m) g)
 
@@ -75,7 +73,7 @@ module _ (s : State) (blocks bytes n m : ℕ) where
   unfolding why_room
   room-has a =
       let k = accepted-both BlockRoom (ltb blocks (all_blocks s + n)) _ a in
-      let d = accepted-both DataRoom (ltb bytes (used s + m)) Accepted k.1 in
+      let d = accepted-both DataRoom (ltb bytes (used s + m)) accepted k.1 in
       (ltb-false blocks (all_blocks s + n) k.0, ltb-false bytes (used s + m) d.0)
 
 -- rooms are within what is lent
@@ -91,11 +89,11 @@ module _ (s : State) (vs bs ss ns ms ps : List ℕ) where
     abbrev here : Builder
     here = held s vs bs ss ns ms ps
 
-    pub block_fit : fits_state here ≡ false → Refused Fit ≡ why_block here x
+    pub block_fit : fits_state here ≡ false → Err Fit ≡ why_block here x
     unfolding why_block refuse
     block_fit h = rw h
 
-    pub block-long : fits_state here ≡ true → byte_limit < length x → Refused TooLong ≡ why_block here x
+    pub block-long : fits_state here ≡ true → byte_limit < length x → Err TooLong ≡ why_block here x
     unfolding why_block refuse
     block-long h g = rw (h, lt-ltb byte_limit (length x) g)
 
@@ -144,7 +142,7 @@ module _ (s : State) (vs bs ss ns ms ps : List ℕ) where
     pub does-block : (w : Why) (t : State) {u : State} {ss₁ ns₁ bs' ss' ns' : List ℕ} → w ≡ why_block here x → is_accepted w ≡ true → t ≡ closed s
         → ss₁ ≡ open_starts s ss → ns₁ ≡ open_lens s ns → u ≡ block_more (length x) t
         → bs' ≡ paste bs t.base x (length x) → ss' ≡ set ss₁ t.blocks t.base → ns' ≡ set ns₁ t.blocks (length x)
-        → Does (λ b. why_block b x) (put_block x) s vs bs ss ns ms ps (answer Accepted u) vs bs' ss' ns' ms ps × (t.blocks ≡ block_number here x)
+        → Does (λ b. why_block b x) (put_block x) s vs bs ss ns ms ps (answer accepted u) vs bs' ss' ns' ms ps × (t.blocks ≡ block_number here x)
     unfolding put_block lay_block complete closed recorded block_number
     does-block w t e h et e1 e2 eu eb es en =
         let j = blocked (ap is_accepted (sym e) ∙ h) in
@@ -171,12 +169,12 @@ module _ (s : State) (vs bs ss ns ms ps : List ℕ) where
     abbrev at : Builder
     at = held s vs bs ss ns ms ps
 
-    pub view-fit : fits_state at ≡ false → Refused Fit ≡ why_view at k o n
+    pub view-fit : fits_state at ≡ false → Err Fit ≡ why_view at k o n
     unfolding why_view refuse
     view-fit h = rw h
 
     module _ (fit : fits_state at ≡ true) where
-      pub view-none : s.blocks ≤ k → Refused NoBlock ≡ why_view at k o n
+      pub view-none : s.blocks ≤ k → Err NoBlock ≡ why_view at k o n
       unfolding why_view refuse
       view-none h = rw (fit, le-leb s.blocks k h)
 
@@ -193,7 +191,7 @@ module _ (s : State) (vs bs ss ns ms ps : List ℕ) where
         data_is : in_data (buffers [] bs [] []) (block (get_or ss k 0) (get_or ns k 0)) ≡ in_data (lent vs bs ss ns ms) (block_at (lent vs bs ss ns ms) k)
         data_is = block-in-data vs bs ss ns ms k in-ss in-ns
 
-        pub view-outside : in_data (buffers [] bs [] []) (block (get_or ss k 0) (get_or ns k 0)) ≡ false → Refused Range ≡ why_view at k o n
+        pub view-outside : in_data (buffers [] bs [] []) (block (get_or ss k 0) (get_or ns k 0)) ≡ false → Err Range ≡ why_view at k o n
         unfolding why_view refuse
         view-outside h = rw (fit, lt-leb s.blocks k there, sym data_is ∙ h)
 
@@ -201,7 +199,7 @@ module _ (s : State) (vs bs ss ns ms ps : List ℕ) where
           len_is : (block_at (lent vs bs ss ns ms) k).len ≡ get_or ns k 0
           len_is = ap (λ (b : Block). b.len) record_is
 
-          pub view-over : get_or ns k 0 < o + n → Refused Range ≡ why_view at k o n
+          pub view-over : get_or ns k 0 < o + n → Err Range ≡ why_view at k o n
           unfolding why_view refuse
           view-over h = rw (fit, lt-leb s.blocks k there, sym data_is ∙ inside, len_is, lt-leb (o + n) (get_or ns k 0) h)
 
@@ -223,12 +221,12 @@ module _ (s : State) (vs bs ss ns ms ps : List ℕ) where
               kind-is : of_kind s.kind (viewed at k o n) ≡ y
               kind-is = ap (of_kind s.kind) (sym view-part) ∙ sym ey
 
-              pub view-kind : y ≡ false → Refused NotUtf8 ≡ why_view at k o n
+              pub view-kind : y ≡ false → Err NotUtf8 ≡ why_view at k o n
               unfolding why_view refuse
               view-kind h = rw (fit, lt-leb s.blocks k there, sym data_is ∙ inside, len_is, le-leb (o + n) (get_or ns k 0) range, kind-is ∙ h)
 
               module _ (rows : ℕ) (er : rows ≡ room_of_rows s.merging (length vs) (length ms) (length ps)) (ok : y ≡ true) where
-                pub view-full : rows ≤ s.rows → Refused RowRoom ≡ why_view at k o n
+                pub view-full : rows ≤ s.rows → Err RowRoom ≡ why_view at k o n
                 unfolding why_view refuse
                 view-full h =
                     rw (
@@ -243,7 +241,7 @@ module _ (s : State) (vs bs ss ns ms ps : List ℕ) where
                       le-leb rows s.rows h,
                     )
 
-                pub view-fine : s.rows < rows → Accepted ≡ why_view at k o n
+                pub view-fine : s.rows < rows → accepted ≡ why_view at k o n
                 unfolding why_view refuse
                 view-fine h =
                     rw (
@@ -274,7 +272,7 @@ module _ (s : State) (vs bs ss ns ms ps : List ℕ) where
         let r = accepted-both Range (not (in_data (lent vs bs ss ns ms) (block_at (lent vs bs ss ns ms) k) && leb (o + n) (block_at (lent vs bs ss ns ms)
         k).len)) _ b.1 in
         let u = accepted-both NotUtf8 (not (of_kind s.kind (viewed at k o n))) _ r.1 in
-        let m = accepted-both RowRoom (leb (rows_room at) s.rows) Accepted u.1 in
+        let m = accepted-both RowRoom (leb (rows_room at) s.rows) accepted u.1 in
         let fit = not-false (fits_state at) f.0 in
         let there = leb-false s.blocks k b.0 in
         let both = not-false _ r.0 in
@@ -297,7 +295,7 @@ module _ (s : State) (vs bs ss ns ms ps : List ℕ) where
     pub does-view : (w : Why) {t : State} {vs' ms' : List ℕ} → w ≡ why_view at k o n → is_accepted w ≡ true → t ≡ rowed true s
         → vs' ≡ paste vs (16 * s.rows) (make_view (take (get_or ss k 0 + o + n - (get_or ss k 0 + o)) (drop (get_or ss k 0 + o) bs)) k o) 16
         → ms' ≡ put_bit ms s.rows true
-        → Does (λ b. why_view b k o n) (put_view k o n) s vs bs ss ns ms ps (answer Accepted t) vs' bs ss ns ms' ps
+        → Does (λ b. why_view b k o n) (put_view k o n) s vs bs ss ns ms ps (answer accepted t) vs' bs ss ns ms' ps
     unfolding put_view add_row
     does-view w e h et ev em =
         let g = seen (ap is_accepted (sym e) ∙ h) in

@@ -1,5 +1,5 @@
 -- A column added: its verdict test by test, its blocks and rows field by field, and the call's contract from what its parts leave. Assumes nothing.
-use Rattle.std.specs.Prelude.{◌≡◌, Bool, true, false, not, ltb, eqb, get_or, take}
+use Rattle.std.specs.Prelude.{◌≡◌, Bool, true, false, not, ltb, eqb, get_or, take, Err}
 use Rattle.std.proofs.Math.Path.{refl, sym, ap}
 use Rattle.std.proofs.Common.{subst, ◌∙◌, add-zero, add-suc, add_assoc, not-suc-le-zero, add-one, arith, length-append, take_all, length-take-le}
 use Rattle.std.proofs.Math.Logic.{by_cases}
@@ -14,10 +14,8 @@ use Rattle.basis.specs.Pick.{pick, part-is}
 use Rattle.words.specs.Words.{enc, put_word}
 use Rattle.words.specs.ListLaws.{put-enc, length-enc}
 use Rattle.bounds.specs.Bounds.{row_limit, block_limit, byte_limit, block-limit-small, byte-limit-small}
-use Rattle.bounds.specs.Refusals.{refuse, is_accepted, accepted-both}
+use Rattle.bounds.specs.Refusals.{refuse, is_accepted, accepted-both, accepted, Why}
 use Rattle.bounds.specs.declared.Refusal.TheVariants.{Fit, RowRoom, Range, BadView}
-use Rattle.bounds.specs.declared.Why.{Why}
-use Rattle.bounds.specs.declared.Why.TheVariants.{Accepted, Refused}
 use Rattle.null_bits.specs.Bits as bits
 use Rattle.null_bits.specs.Runs.{put_bits, copy_column}
 use Rattle.views.specs.View.{short_most, view_at, length_of, block_of}
@@ -260,7 +258,7 @@ module _ (b : Builder) (l : Lent) (c : Column) where
   abbrev pub alone : Why
   alone = why_invalid l (by_kind b.state.kind c)
 
-  alone-is : alone ≡ rest Accepted
+  alone-is : alone ≡ rest accepted
   unfolding why_invalid fits
   alone-is = refl
 
@@ -268,31 +266,31 @@ module _ (b : Builder) (l : Lent) (c : Column) where
   unfolding why_column refuse
   whole_is fit = rw fit
 
-  pub column-fit : fits_state b ≡ false → Refused Fit ≡ why_column l c b
+  pub column-fit : fits_state b ≡ false → Err Fit ≡ why_column l c b
   unfolding why_column refuse
   column-fit h = rw h
 
   pub column-no : (w : Why) → fits_state b ≡ true → w ≡ alone → is_accepted w ≡ false → w ≡ why_column l c b
   column-no w fit e h =
-      let q : is_accepted (rest Accepted) ≡ false = ap is_accepted (sym (e ∙ alone-is)) ∙ h in
+      let q : is_accepted (rest accepted) ≡ false = ap is_accepted (sym (e ∙ alone-is)) ∙ h in
       e ∙ alone-is
       ∙ refuse-same Fit (not (fits l c)) _ _ (lowest-same (true_at b.state.kind l c) c.rows _ _
-      (refuse-same Range (not (all_in_data l c.blocks)) Accepted later (never later))) q
+      (refuse-same Range (not (all_in_data l c.blocks)) accepted later (never later))) q
       ∙ sym (whole_is fit)
 
   column-on : fits_state b ≡ true → is_accepted alone ≡ true → why_column l c b ≡ later
   column-on fit a =
       whole_is fit
       ∙ refuse-on Fit (not (fits l c)) _ _ later (lowest-on (true_at b.state.kind l c) c.rows _ _ later
-      (refuse-on Range (not (all_in_data l c.blocks)) Accepted later later (λ z. refl)))
+      (refuse-on Range (not (all_in_data l c.blocks)) accepted later later (λ z. refl)))
       (ap is_accepted (sym alone-is) ∙ a)
 
   pub alone-gives : is_accepted alone ≡ true → (fits l c ≡ true) × (all_in_data l c.blocks ≡ true)
   alone-gives a =
-      let q : is_accepted (rest Accepted) ≡ true = ap is_accepted (sym alone-is) ∙ a in
+      let q : is_accepted (rest accepted) ≡ true = ap is_accepted (sym alone-is) ∙ a in
       let f = accepted-both Fit (not (fits l c)) _ q in
       let g = lowest-good (true_at b.state.kind l c) c.rows _ f.1 in
-      let r = accepted-both Range (not (all_in_data l c.blocks)) Accepted g.1 in
+      let r = accepted-both Range (not (all_in_data l c.blocks)) accepted g.1 in
       (not-false (fits l c) f.0, not-false (all_in_data l c.blocks) r.0)
 
   whole-gives : is_accepted (why_column l c b) ≡ true → (fits_state b ≡ true) × (fits l c ≡ true) × (all_in_data l c.blocks ≡ true) × (is_accepted later ≡ true)
@@ -317,7 +315,7 @@ module _ (s : State) (vs bs ss ns ms ps cv cb cs cl cn : List ℕ) (c : Column) 
 
   module _ (fit : fits_state here ≡ true) (ok : is_accepted (alone here from c) ≡ true) (rows : ℕ) (er : rows ≡ room_of_rows s.merging (length vs)
       (length ms) (length ps)) where
-    pub column-full : rows < s.rows + c.rows → Refused RowRoom ≡ why_column from c here
+    pub column-full : rows < s.rows + c.rows → Err RowRoom ≡ why_column from c here
     unfolding refuse
     column-full h = sym (column-on here from c fit ok ∙ rw (← er ∙ rows-room-is s vs bs ss ns ms ps, lt-ltb rows (s.rows + c.rows) h))
 
@@ -401,7 +399,7 @@ module _ (s : State) (vs bs ss ns ms ps cv cb cs cl cn : List ℕ) (c : Column) 
       → ms' ≡ copy_column ms s.rows cn c.mapped c.first c.rows
       → some ≡ pick (eqb (bits.count_nulls cn c.mapped c.first c.rows) 0) s.nulled true
       → u ≡ column_more c.rows c.blocks end some t
-      → Does (why_column from c) (put_column from c) s vs bs ss ns ms ps (answer Accepted u) vs' bs' ss' ns' ms' ps
+      → Does (why_column from c) (put_column from c) s vs bs ss ns ms ps (answer accepted u) vs' bs' ss' ns' ms' ps
   unfolding put_column complete closed recorded row_valid
   does-column w t {u} {some} {end} {ss₁} {ns₁} e h et e1 e2 ee eb es en ev em en' eu =
       let j = taken (ap is_accepted (sym e) ∙ h) in

@@ -1,4 +1,5 @@
 // A block, a view of a completed block, and a whole column added to a builder. The state goes in by value and comes back; the buffers are lent.
+// The builder's buffers stay parameters of their own: a call takes `&mut` of those alone that it writes, and a struct of all would ask it of each.
 #![tactic(auto)]
 
 ghost use Rattle.std.specs.Prelude.{◌≡◌, true, [], ℕ, ◌+◌, ◌*◌, ◌^◌, ◌≤◌, ◌<◌, eqb, length, set, get_or};
@@ -6,18 +7,19 @@ ghost use Rattle.basis.specs.Pick.{pick};
 ghost use Rattle.std.proofs.Math.Seq.{paste};
 ghost use Rattle.bounds.specs.Bounds.{row_limit, block_limit, byte_limit};
 ghost use Rattle.views.specs.View.{view_at};
-ghost use Rattle.column.specs.Lent.{lent};
+ghost use Rattle.column.specs.Lent.{lent_of};
 ghost use Rattle.column.specs.Room.{bare};
 ghost use Rattle.builder.specs.State.{held, all_blocks, used, closed};
 ghost use Rattle.builder.specs.Others.{why_room, why_block, put_block, block_number, why_view, put_view, renumbered, block_bytes, why_column, put_column};
 ghost use Rattle.builder.specs.Does.{Does, answer};
 ghost use Rattle.appending.specs.Laying.{block_more, column_more, end_from, put_data, put_starts, put_lens, put_from, lens_total, by_kind, Taking};
 
-use bounds::{Refusal, Why};
+use bounds::Refusal;
 use builder::{Answer, State};
-use column::{Column, Kind};
+use column::{Buffers, Column, Kind};
 
 // What adding a block answers: the verdict beside the state that it leaves, and the block's number, 0 where it is refused.
+// No Result of the two: `append_block` promises the state and the number on a refusal too (`Does`, `block_number`).
 #[derive(Clone, Copy)]
 pub struct Placed {
     pub answer: Answer,
@@ -25,19 +27,17 @@ pub struct Placed {
 }
 
 // 6 and 7 for n blocks and m bytes more.
-pub fn why_room(s: State, blocks: usize, bytes: usize, n: usize, m: usize) -> Why
+pub fn why_room(s: State, blocks: usize, bytes: usize, n: usize, m: usize) -> Result<(), Refusal>
     requires { (all_blocks s + n < 2 ^ 64) × (used s + m < 2 ^ 64) }
     ensures { result ≡ why_room s blocks bytes n m }
 {
-    let base = s.base;
-    let fill = s.fill;
     if blocks < builder::all_blocks(s) + n {
-        return Why::Refused(Refusal::BlockRoom);
+        return Err(Refusal::BlockRoom);
     }
-    if bytes < base + fill + m {
-        return Why::Refused(Refusal::DataRoom);
+    if bytes < s.base + s.fill + m {
+        return Err(Refusal::DataRoom);
     }
-    Why::Accepted
+    Ok(())
 }
 
 // The state with the open block, if any, completed.
@@ -45,19 +45,12 @@ pub fn close(s: State) -> State
     requires { (all_blocks s < 2 ^ 64) × (used s < 2 ^ 64) }
     ensures { result ≡ closed s }
 {
-    let kind = s.kind;
-    let growth = s.growth;
-    let merging = s.merging;
     State {
-        kind,
-        growth,
-        merging,
-        rows: s.rows,
         blocks: builder::all_blocks(s),
         base: s.base + s.fill,
         fill: 0,
         cap: 0,
-        nulled: s.nulled,
+        ..s
     }
 }
 
@@ -85,10 +78,11 @@ pub fn block_more(s: State, n: usize) -> State
     requires { (s.blocks < 2 ^ 32) × (s.base + n < 2 ^ 64) }
     ensures { result ≡ block_more n s }
 {
-    let mut t = s;
-    t.blocks = s.blocks + 1;
-    t.base = s.base + n;
-    t
+    State {
+        blocks: s.blocks + 1,
+        base: s.base + n,
+        ..s
+    }
 }
 
 // 2, 4, 6 and 7 for a block.
@@ -101,15 +95,15 @@ fn why_block(
     nulls: &[u8],
     places: &[u32],
     x: &[u8],
-) -> Why
+) -> Result<(), Refusal>
     ensures { result ≡ why_block (held s views.now bytes.now starts.now lens.now nulls.now
         places.now) x.now }
 {
     if !builder::fits_lent(s, views, bytes, starts, lens, nulls, places) {
-        return Why::Refused(Refusal::Fit);
+        return Err(Refusal::Fit);
     }
     if bounds::BYTE_LIMIT < x.len() {
-        return Why::Refused(Refusal::TooLong);
+        return Err(Refusal::TooLong);
     }
     why_room(
         s,
@@ -137,19 +131,10 @@ pub fn append_block(
         × (result.block ≡ block_number (held s views.now bytes.old starts.old lens.old nulls.now
         places.now) x.now) }
 {
-    let w = why_block(
-        s,
-        views,
-        &bytes[..],
-        &starts[..],
-        &lens[..],
-        nulls,
-        places,
-        x,
-    );
-    if !bounds::is_accepted(w) {
+    let why = why_block(s, views, bytes, starts, lens, nulls, places, x);
+    if why.is_err() {
         return Placed {
-            answer: Answer { why: w, state: s },
+            answer: Answer { why, state: s },
             block: 0,
         };
     }
@@ -158,11 +143,10 @@ pub fn append_block(
     let k = t.blocks;
     let at = t.base;
     put_block(bytes, starts, lens, k, at, x);
-    let u = block_more(t, x.len());
     Placed {
         answer: Answer {
-            why: Why::Accepted,
-            state: u,
+            why: Ok(()),
+            state: block_more(t, x.len()),
         },
         block: k,
     }
@@ -180,84 +164,35 @@ fn why_view(
     block: u32,
     offset: u32,
     n: u32,
-) -> Why
+) -> Result<(), Refusal>
     ensures { result ≡ why_view (held s views.now bytes.now starts.now lens.now nulls.now
         places.now) block offset n }
 {
-    let kind = s.kind;
-    let merging = s.merging;
-    let rows = s.rows;
-    let blocks = s.blocks;
     if !builder::fits_lent(s, views, bytes, starts, lens, nulls, places) {
-        return Why::Refused(Refusal::Fit);
+        return Err(Refusal::Fit);
     }
     let k = block as usize;
-    if blocks <= k {
-        return Why::Refused(Refusal::NoBlock);
+    if s.blocks <= k {
+        return Err(Refusal::NoBlock);
     }
     let start = starts[k];
     let size = lens[k];
     if !column::in_data(bytes, start, size) {
-        return Why::Refused(Refusal::Range);
+        return Err(Refusal::Range);
     }
     let o = offset as usize;
     let m = n as usize;
     if size < o + m {
-        return Why::Refused(Refusal::Range);
+        return Err(Refusal::Range);
     }
     let a = start + o;
-    let e = a + m;
-    if !column::of_kind(kind, &bytes[a..e]) {
-        return Why::Refused(Refusal::NotUtf8);
+    if !column::of_kind(s.kind, &bytes[a..a + m]) {
+        return Err(Refusal::NotUtf8);
     }
-    if builder::rows_room(merging, views.len(), nulls.len(), places.len()) <= rows {
-        return Why::Refused(Refusal::RowRoom);
+    if builder::rows_room(s.merging, views.len(), nulls.len(), places.len()) <= s.rows {
+        return Err(Refusal::RowRoom);
     }
-    Why::Accepted
-}
-
-// A row is added that shows n bytes at an offset of a completed block: the work.
-fn view_call(
-    s: State,
-    views: &mut [u8],
-    bytes: &[u8],
-    starts: &[usize],
-    lens: &[usize],
-    nulls: &mut [u8],
-    places: &[u32],
-    block: u32,
-    offset: u32,
-    n: u32,
-) -> Answer
-    ensures { Does (λ b. why_view b block offset n) (put_view block offset n) s
-        views.old bytes.now starts.now lens.now nulls.old places.now
-        result views.new bytes.now starts.now lens.now nulls.new places.now }
-{
-    let rows = s.rows;
-    let w = why_view(
-        s,
-        &views[..],
-        bytes,
-        starts,
-        lens,
-        &nulls[..],
-        places,
-        block,
-        offset,
-        n,
-    );
-    if !bounds::is_accepted(w) {
-        return Answer { why: w, state: s };
-    }
-    let a = starts[block as usize] + offset as usize;
-    let e = a + n as usize;
-    views::put_view(views, views::VIEW_SIZE * rows, &bytes[a..e], block, offset);
-    null_bits::put_bit(nulls, rows, true);
-    let t = builder::row_more(s, true);
-    Answer {
-        why: Why::Accepted,
-        state: t,
-    }
+    Ok(())
 }
 
 // A row is added that shows n bytes at an offset of a completed block.
@@ -277,18 +212,22 @@ pub fn append_view(
         views.old bytes.now starts.now lens.now nulls.old places.now
         result views.new bytes.now starts.now lens.now nulls.new places.now }
 {
-    view_call(
-        builder::anew(s),
-        views,
-        bytes,
-        starts,
-        lens,
-        nulls,
-        places,
-        block,
-        offset,
-        n,
-    )
+    let s = builder::anew(s);
+    let why = why_view(
+        s, views, bytes, starts, lens, nulls, places, block, offset, n,
+    );
+    if why.is_err() {
+        return Answer { why, state: s };
+    }
+    let a = starts[block as usize] + offset as usize;
+    let e = a + n as usize;
+    let o = views::VIEW_SIZE * s.rows;
+    views::put_view(views, o, &bytes[a..e], block, offset);
+    null_bits::put_bit(nulls, s.rows, true);
+    Answer {
+        why: Ok(()),
+        state: builder::row_more(s, true),
+    }
 }
 
 // The lengths of the first n blocks together.
@@ -296,26 +235,14 @@ fn total(lens: &[usize], n: usize) -> usize
     requires { (n ≤ length lens.now) × (n ≤ block_limit) × ((k : ℕ) → k < n → get_or lens.now k 0 ≤ byte_limit) }
     ensures { (result ≡ lens_total lens.now n) × (result ≤ 16777216 * n) }
 {
-    let mut t = 0;
-    let mut k = 0;
-    while k < n {
-        t += lens[k];
-        k += 1;
-    }
-    t
+    lens[..n].iter().sum()
 }
 
 // The same column judged by another kind.
 fn with_kind(c: Column, kind: Kind) -> Column
     ensures { result ≡ by_kind kind c }
 {
-    Column {
-        first: c.first,
-        rows: c.rows,
-        blocks: c.blocks,
-        kind,
-        mapped: c.mapped,
-    }
+    Column { kind, ..c }
 }
 
 // 2, 11, 9, 5, 6 and 7 for a column, which is judged by the builder's kind.
@@ -327,45 +254,25 @@ fn why_column<'a>(
     lens: &[usize],
     nulls: &[u8],
     places: &[u32],
-    srcviews: &'a [u8],
-    srcbytes: &'a [u8],
-    srcstarts: &[usize],
-    srclens: &[usize],
-    srcnulls: &[u8],
+    src: Buffers<'a, '_>,
     c: Column,
-) -> Why
-    ensures { result ≡ why_column (lent srcviews.now srcbytes.now srcstarts.now srclens.now
-        srcnulls.now) c
+) -> Result<(), Refusal>
+    ensures { result ≡ why_column (lent_of src.entry) c
         (held s views.now bytes.now starts.now lens.now nulls.now places.now) }
 {
-    let kind = s.kind;
-    let merging = s.merging;
-    let have = s.rows;
-    let rows = c.rows;
-    let blocks = c.blocks;
     if !builder::fits_lent(s, views, bytes, starts, lens, nulls, places) {
-        return Why::Refused(Refusal::Fit);
+        return Err(Refusal::Fit);
     }
-    let w = validity::check(
-        srcviews,
-        srcbytes,
-        srcstarts,
-        srclens,
-        srcnulls,
-        with_kind(c, kind),
-    );
-    if !bounds::is_accepted(w) {
-        return w;
-    }
-    if builder::rows_room(merging, views.len(), nulls.len(), places.len()) < have + rows {
-        return Why::Refused(Refusal::RowRoom);
+    validity::check(src, with_kind(c, s.kind))?;
+    if builder::rows_room(s.merging, views.len(), nulls.len(), places.len()) < s.rows + c.rows {
+        return Err(Refusal::RowRoom);
     }
     why_room(
         s,
         builder::blocks_room(starts.len(), lens.len()),
         builder::bytes_room(bytes.len()),
-        blocks,
-        total(srclens, blocks),
+        c.blocks,
+        total(src.lens, c.blocks),
     )
 }
 
@@ -389,14 +296,11 @@ fn put_blocks(
         × (lens.new ≡ put_lens (block_bytes (bare [] src.now srcstarts.now srclens.now)) n lens.old first) }
 {
     let mut at = base;
-    let mut k = 0;
-    while k < n {
+    for k in 0..n {
         let a = srcstarts[k];
         let m = srclens[k];
-        let e = a + m;
-        put_block(bytes, starts, lens, first + k, at, &src[a..e]);
+        put_block(bytes, starts, lens, first + k, at, &src[a..a + m]);
         at += m;
-        k += 1;
     }
     at
 }
@@ -408,11 +312,10 @@ fn put_row(views: &mut [u8], to: usize, src: &[u8], from: usize, before: usize)
 {
     let o = views::VIEW_SIZE * to;
     words::copy16(views, o, src, views::VIEW_SIZE * from);
-    if views::view_len(src, from) <= views::SHORT_MOST {
-        return;
+    if views::SHORT_MOST < views::view_len(src, from) {
+        let k = views::view_block(src, from);
+        words::put32(views, o + 8, (k + before) as u64);
     }
-    let k = views::view_block(src, from);
-    words::put32(views, o + 8, (k + before) as u64);
 }
 
 // The views of n rows of another column from its row `from` on, stored from row `to` on.
@@ -420,10 +323,8 @@ pub fn put_rows(views: &mut [u8], to: usize, src: &[u8], from: usize, n: usize, 
     requires { (16 * (to + n) ≤ length views.old) × (16 * (from + n) ≤ length src.now) × (before < 2 ^ 32) }
     ensures { views.new ≡ put_from (λ k. renumbered before (view_at src.now (from + k))) n views.old to }
 {
-    let mut k = 0;
-    while k < n {
+    for k in 0..n {
         put_row(views, to + k, src, from + k, before);
-        k += 1;
     }
 }
 
@@ -431,10 +332,7 @@ pub fn put_rows(views: &mut [u8], to: usize, src: &[u8], from: usize, n: usize, 
 pub fn flag(nulled: bool, nulls: usize) -> bool
     ensures { result ≡ pick (eqb nulls 0) nulled true }
 {
-    if nulls == 0 {
-        return nulled;
-    }
-    true
+    nulled || nulls != 0
 }
 
 // The state with so many rows and blocks more, up to an end.
@@ -442,12 +340,13 @@ pub fn column_more(s: State, rows: usize, blocks: usize, end: usize, nulled: boo
     requires { (s.rows + rows ≤ row_limit) × (s.blocks + blocks ≤ block_limit) }
     ensures { result ≡ column_more rows blocks end nulled s }
 {
-    let mut t = s;
-    t.rows = s.rows + rows;
-    t.blocks = s.blocks + blocks;
-    t.base = end;
-    t.nulled = nulled;
-    t
+    State {
+        rows: s.rows + rows,
+        blocks: s.blocks + blocks,
+        base: end,
+        nulled,
+        ..s
+    }
 }
 
 // A column is added: the open block, if any, is completed, the column's blocks are copied whole, its views renumbered, its null bits copied.
@@ -459,56 +358,30 @@ pub fn append_column<'a>(
     lens: &mut [usize],
     nulls: &mut [u8],
     places: &[u32],
-    srcviews: &'a [u8],
-    srcbytes: &'a [u8],
-    srcstarts: &[usize],
-    srclens: &[usize],
-    srcnulls: &[u8],
+    src: Buffers<'a, '_>,
     c: Column,
 ) -> Answer
-    ensures { Does (why_column (lent srcviews.now srcbytes.now srcstarts.now srclens.now
-        srcnulls.now) c)
-        (put_column (lent srcviews.now srcbytes.now srcstarts.now srclens.now srcnulls.now) c) s
+    ensures { Does (why_column (lent_of src.entry) c)
+        (put_column (lent_of src.entry) c) s
         views.old bytes.old starts.old lens.old nulls.old places.now
         result views.new bytes.new starts.new lens.new nulls.new places.now }
 {
-    let rows = s.rows;
-    let nulled = s.nulled;
-    let first = c.first;
-    let n = c.rows;
-    let blocks = c.blocks;
-    let mapped = c.mapped;
-    let w = why_column(
-        s,
-        &views[..],
-        &bytes[..],
-        &starts[..],
-        &lens[..],
-        &nulls[..],
-        places,
-        srcviews,
-        srcbytes,
-        srcstarts,
-        srclens,
-        srcnulls,
-        c,
-    );
-    if !bounds::is_accepted(w) {
-        return Answer { why: w, state: s };
+    let why = why_column(s, views, bytes, starts, lens, nulls, places, src, c);
+    if why.is_err() {
+        return Answer { why, state: s };
     }
     builder::put_record(s, starts, lens);
     let t = close(s);
     let before = t.blocks;
-    let base = t.base;
     let end = put_blocks(
-        bytes, starts, lens, before, base, srcbytes, srcstarts, srclens, blocks,
+        bytes, starts, lens, before, t.base, src.bytes, src.starts, src.lens, c.blocks,
     );
-    put_rows(views, rows, srcviews, first, n, before);
-    null_bits::runs::copy_column(nulls, rows, srcnulls, mapped, first, n);
-    let some = flag(nulled, null_bits::count_nulls(srcnulls, mapped, first, n));
-    let u = column_more(t, n, blocks, end, some);
+    put_rows(views, s.rows, src.views, c.first, c.rows, before);
+    null_bits::runs::copy_column(nulls, s.rows, src.nulls, c.mapped, c.first, c.rows);
+    let added = null_bits::count_nulls(src.nulls, c.mapped, c.first, c.rows);
+    let some = flag(s.nulled, added);
     Answer {
-        why: Why::Accepted,
-        state: u,
+        why: Ok(()),
+        state: column_more(t, c.rows, c.blocks, end, some),
     }
 }

@@ -1,8 +1,8 @@
 -- What the batches answer: rows below the next one, and values tasted. Assumes nothing.
 use Rattle.std.specs.Prelude.{ℕ, zero, suc, ◌+◌, ◌-◌, ◌%◌, ◌^◌, Bool, true, false, List, length, ◌==◌, slice_index}
 use Rattle.basis.specs.Pick.{pick}
-use Rattle.order.specs.declared.Order.{Order}
-use Rattle.order.specs.declared.Order.TheVariants.{Less, Equal, Greater}
+use Rattle.order.specs.Order.{Order}
+use Rattle.std.proofs.Common.{Less, Equal, Greater}
 use Rattle.column.specs.declared.Column.{Column}
 use Rattle.column.specs.Lent.{Lent, fits}
 use Rattle.reading.specs.Reading.{value_at}

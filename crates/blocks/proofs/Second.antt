@@ -1,5 +1,8 @@
 -- No second answer to any call over records, and none to a step of the walk; of a part, also which one it is. What each promises is the fact that it
 -- looks like, by the clauses that the toolchain makes of its contract, and that fact has one answer. Assumes nothing.
+use Rattle.comparison.specs.declared.Side.{Side}
+use Rattle.std.specs.Prelude.{Result}
+use Rattle.order.specs.Order.{Order}
 use mathlib.Core.Path.{◌≡◌, refl, sym, ◌∙◌}
 use mathlib.Core.List.{List}
 use Prim.Native.Nat.{ℕ}
@@ -11,13 +14,12 @@ use prog.Routine.{Routine}
 use types.Logic.{Logic}
 use contract.Monad.{Fun, fact}
 use denote.Bor.{Bor}
-use Rattle.bounds.specs.declared.Why.{Why}
+use Rattle.bounds.specs.Refusals.{Why}
 use Rattle.column.specs.declared.Block.{Block}
 use Rattle.column.specs.declared.Column.{Column}
 use Rattle.column.specs.Lent.{Lent, buffers}
 use Rattle.reading.specs.Reading.{why_value, value_at, points_at}
 use Rattle.reading.specs.Walk.{cursor, walk_value, walk_step}
-use Rattle.comparison.specs.declared.Compared.{Compared}
 use Rattle.comparison.specs.Compare.{compare_rows}
 use Rattle.validity.specs.Check.{why_invalid}
 use Rattle.blocks.specs.declared.Walk.{Walk}
@@ -71,15 +73,15 @@ module _ {M : Type 1} {𝓤 : Ura M} (𝓛 : Logic 𝓤) (mem : Memory → SProp
       value-one r r' p q = (p.1 ∙ sym q.1, p.0 ∙ sym q.0)
 
       module _ (x2 y2 : Bor (List ℕ)) (t2 : Bor (List Block)) (z2 : Bor (List ℕ)) (d : Column) (j : ℕ) where
-        abbrev pub compare-fact : Compared → Type 0
+        abbrev pub compare-fact : Result Order Side → Type 0
         compare-fact o = o ≡ compare_rows l c row (buffers x2.now y2.now t2.now z2.now) d j
 
-        pub compare-says : (o : Compared) → (compare.clauses 𝓛 mem run (κ, tt)
+        pub compare-says : (o : Result Order Side) → (compare.clauses 𝓛 mem run (κ, tt)
             (x, (y, (t, (z, (c, (row, (x2, (y2, (t2, (z2, (d, (j, tt))))))))))))).ensures tt o
             (x, (y, (t, (z, (c, (row, (x2, (y2, (t2, (z2, (d, (j, tt)))))))))))) ≡ fact 𝓤 (compare-fact o)
         compare-says o = refl
 
-        pub compare-one : (o o' : Compared) → compare-fact o → compare-fact o' → o ≡ o'
+        pub compare-one : (o o' : Result Order Side) → compare-fact o → compare-fact o' → o ≡ o'
         compare-one o o' p q = p ∙ sym q
 
   module _ (w : Walk) where

@@ -1,5 +1,5 @@
 -- The check by its places: what a place that holds tells, and the verdict at the first that doesn't. Assumes nothing.
-use Rattle.std.specs.Prelude.{◌≡◌, Bool, true, false, List, [], length}
+use Rattle.std.specs.Prelude.{◌≡◌, Bool, true, false, List, [], length, Err}
 use Rattle.std.proofs.Math.Path.{refl, sym, ap}
 use Rattle.std.proofs.Common.{subst, ◌∙◌, true≢false, not-suc-le-zero, arith, lt-ltb, le-ltb}
 use Rattle.std.proofs.Math.Bool.{not}
@@ -8,10 +8,8 @@ use Prim.Native.Nat.{ℕ, zero, suc, ◌+◌, ◌-◌, ◌*◌, ◌≤◌, ◌<�
 use Rattle.std.proofs.Math.Nat.{add-sub_cancel_left}
 use Rattle.std.proofs.Math.Decide.{ℕ_discrete}
 use Rattle.std.proofs.Math.ListN.{get_or}
-use Rattle.bounds.specs.Refusals.{refuse, refuse-yes, refuse-no}
+use Rattle.bounds.specs.Refusals.{refuse, refuse-yes, refuse-no, accepted, Why}
 use Rattle.bounds.specs.declared.Refusal.TheVariants.{Fit, Range, BadView}
-use Rattle.bounds.specs.declared.Why.{Why}
-use Rattle.bounds.specs.declared.Why.TheVariants.{Accepted, Refused}
 use Rattle.views.specs.View.{view_size, view_at}
 use Rattle.column.specs.declared.Block.{Block}
 use Rattle.column.specs.declared.Column.{Column}
@@ -54,17 +52,17 @@ module _ (l : Lent) (c : Column) where
 
   -- 9
   abbrev blocked : Why
-  blocked = refuse Range (not (all_in_data l c.blocks)) Accepted
+  blocked = refuse Range (not (all_in_data l c.blocks)) accepted
 
-  pub check-unfit : fits l c ≡ false → Refused Fit ≡ why_invalid l c
+  pub check-unfit : fits l c ≡ false → Err Fit ≡ why_invalid l c
   unfolding why_invalid
-  check-unfit h = refuse-yes Fit (not (fits l c)) _ (Refused Fit) (ap not h) refl
+  check-unfit h = refuse-yes Fit (not (fits l c)) _ (Err Fit) (ap not h) refl
 
   module _ (k : ℕ) (fit : fits l c ≡ true) (s : Stopped l c k) where
-    pub check-row : k < c.rows → Refused (BadView k) ≡ why_invalid l c
+    pub check-row : k < c.rows → Err (BadView k) ≡ why_invalid l c
     unfolding why_invalid
     check-row h =
-        refuse-no Fit (not (fits l c)) _ (Refused (BadView k)) (ap not fit)
+        refuse-no Fit (not (fits l c)) _ (Err (BadView k)) (ap not fit)
         (lowest-bad (true_at c.kind l c) k c.rows blocked h (λ j g. sym (holds_row j (omega arith)) ∙ s.passed j g) (sym (holds_row k h)
         ∙ s.stops (omega arith)))
 
@@ -74,14 +72,14 @@ module _ (l : Lent) (c : Column) where
         refuse-no Fit (not (fits l c)) _ w (ap not fit) (e ∙ lowest-none (true_at c.kind l c) c.rows blocked (λ j g. sym (holds_row j g)
         ∙ s.passed j (omega arith)))
 
-    pub check-block : c.rows ≤ k → k - c.rows < c.blocks → Refused Range ≡ why_invalid l c
+    pub check-block : c.rows ≤ k → k - c.rows < c.blocks → Err Range ≡ why_invalid l c
     check-block h g =
-        rows_true h (Refused Range) (refuse-yes Range (not (all_in_data l c.blocks)) Accepted (Refused Range)
+        rows_true h (Err Range) (refuse-yes Range (not (all_in_data l c.blocks)) accepted (Err Range)
         (ap not (sym (all-out (k - c.rows) c.blocks g (sym (holds-block k h) ∙ s.stops (omega arith))))) refl)
 
-    pub check-valid : c.rows ≤ k → c.blocks ≤ k - c.rows → Accepted ≡ why_invalid l c
+    pub check-valid : c.rows ≤ k → c.blocks ≤ k - c.rows → accepted ≡ why_invalid l c
     check-valid h g =
-        rows_true h Accepted (refuse-no Range (not (all_in_data l c.blocks)) Accepted Accepted
+        rows_true h accepted (refuse-no Range (not (all_in_data l c.blocks)) accepted accepted
         (ap not (all_in c.blocks (λ j i. sym (block-place j) ∙ s.passed (c.rows + j) (omega arith)))) refl)
 
 -- ---- the answer on a place, by the record b that it asks for

@@ -1,7 +1,6 @@
 -- What a row walk holds, as the buffers of its column, and its place after a row. Assumes nothing.
 use Rattle.std.specs.Prelude.{ℕ, ◌+◌}
-use Rattle.bounds.specs.Refusals.{if_accepted}
-use Rattle.bounds.specs.declared.Why.{Why}
+use Rattle.bounds.specs.Refusals.{if_accepted, Why}
 use Rattle.column.specs.Lent.{Lent, buffers}
 use Rattle.blocks.specs.declared.Walk.{Walk}
 

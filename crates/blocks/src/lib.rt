@@ -16,23 +16,20 @@ ghost use Rattle.blocks.specs.Walk.{held_by, place_after};
 ghost use Rattle.validity.specs.Check.{why_invalid};
 ghost use Rattle.blocks.specs.Places.{Asks, Answers, PlacesCounted, PlaceFound, Stopped};
 
-use bounds::{Refusal, Why};
+use bounds::Refusal;
 use column::{Block, Column, Seen};
-use comparison::Compared;
+use comparison::Side;
+use std::cmp::Ordering;
 
 // The number of the block that a row's view names; where the views have no such row, 0.
 pub fn block_of(views: &[u8], c: Column, row: usize) -> usize
     ensures { view_size * (c.first + row) + view_size ≤ length views.now → result ≡ block_of (view_at views.now (c.first + row)) }
 {
-    let first = c.first;
     let rows = views.len() / views::VIEW_SIZE;
-    if rows <= first {
+    if rows <= c.first || rows - c.first <= row {
         return 0;
     }
-    if rows - first <= row {
-        return 0;
-    }
-    views::view_block(views, first + row)
+    views::view_block(views, c.first + row)
 }
 
 // What a row of a column sees of the table.
@@ -41,8 +38,10 @@ fn look<'a>(views: &'a [u8], table: &'a [Block], c: Column, row: usize) -> Seen
 {
     let k = block_of(views, c, row);
     let b = tables::block_or(table, k, Block { start: 0, len: 0 });
-    let n = tables::count(table);
-    Seen { count: n, block: b }
+    Seen {
+        count: table.len(),
+        block: b,
+    }
 }
 
 // Why a row's value is refused.
@@ -53,7 +52,7 @@ pub fn why_value<'a>(
     nulls: &'a [u8],
     c: Column,
     row: usize,
-) -> Why
+) -> Result<(), Refusal>
     ensures { result ≡ why_value (buffers views.now bytes.now table.now nulls.now) c row }
 {
     let s = look(views, table, c, row);
@@ -92,21 +91,19 @@ pub struct Walk<'a> {
 #[derive(Clone, Copy)]
 pub struct Item<'a> {
     pub value: &'a [u8],
-    pub why: Why,
+    pub why: Result<(), Refusal>,
     pub walk: Walk<'a>,
 }
 
 // The place after a row: the next one where the row's value was accepted, the same one where it wasn't.
-fn next_place(at: usize, why: Why) -> usize
+fn next_place(at: usize, why: Result<(), Refusal>) -> usize
     ensures { (is_accepted why ≡ true → at ≤ row_limit) → result ≡ place_after why at }
 {
-    if bounds::ROW_LIMIT < at {
-        return at;
+    if at <= bounds::ROW_LIMIT && why.is_ok() {
+        at + 1
+    } else {
+        at
     }
-    if bounds::is_accepted(why) {
-        return at + 1;
-    }
-    at
 }
 
 // A walk before the first row.
@@ -144,26 +141,13 @@ pub fn next<'a>(w: Walk<'a>) -> Item<'a>
           at = (walk_step (held_by w.entry) w.entry.column (cursor w.entry.at)).next.at;
         })) }
 {
-    let views = w.views;
-    let bytes = w.bytes;
-    let table = w.table;
-    let nulls = w.nulls;
-    let column = w.column;
-    let at = w.at;
-    let v = value(views, bytes, table, nulls, column, at);
-    let why = why_value(views, bytes, table, nulls, column, at);
-    let n = next_place(at, why);
+    let value = value(w.views, w.bytes, w.table, w.nulls, w.column, w.at);
+    let why = why_value(w.views, w.bytes, w.table, w.nulls, w.column, w.at);
+    let at = next_place(w.at, why);
     Item {
-        value: v,
+        value,
         why,
-        walk: Walk {
-            views,
-            bytes,
-            table,
-            nulls,
-            column,
-            at: n,
-        },
+        walk: Walk { at, ..w },
     }
 }
 
@@ -181,7 +165,7 @@ pub fn compare<'a>(
     nulls2: &'a [u8],
     d: Column,
     j: usize,
-) -> Compared
+) -> Result<Ordering, Side>
     ensures { result ≡ compare_rows (buffers views.now bytes.now table.now nulls.now) c i
         (buffers views2.now bytes2.now table2.now nulls2.now) d j }
 {
@@ -196,11 +180,11 @@ pub fn compare<'a>(
 fn place_of(views: &[u8], c: Column, k: usize) -> usize
     ensures { Asks views.now c k result }
 {
-    let rows = c.rows;
-    if k < rows {
-        return block_of(views, c, k);
+    if k < c.rows {
+        block_of(views, c, k)
+    } else {
+        k - c.rows
     }
-    k - rows
 }
 
 // Whether place k of the check holds, by the record that it asks for; past the places none does.
@@ -211,59 +195,49 @@ fn judge<'a>(views: &'a [u8], bytes: &'a [u8], c: Column, places: usize, k: usiz
     if places <= k {
         return false;
     }
-    let rows = c.rows;
-    if rows <= k {
-        let start = b.start;
-        let len = b.len;
-        return column::in_data(bytes, start, len);
+    if c.rows <= k {
+        return column::in_data(bytes, b.start, b.len);
     }
-    let first = c.first;
     let room = views.len() / views::VIEW_SIZE;
-    if room <= first {
+    if room <= c.first || room - c.first <= k {
         return false;
     }
-    if room - first <= k {
-        return false;
-    }
-    let kind = c.kind;
-    let blocks = c.blocks;
-    column::true_with(views, bytes, first + k, kind, blocks, b)
+    column::true_with(views, bytes, c.first + k, c.kind, c.blocks, b)
 }
 
 // How many places the check asks: a column's rows and blocks, and none where the column doesn't fit.
 fn places_with<'a>(views: &'a [u8], nulls: &'a [u8], c: Column, count: usize) -> usize
     ensures { PlacesCounted views.now nulls.now c count result }
 {
-    if !column::fits_with(views, nulls, c, count) {
+    if !column::fits_with(views, nulls, c, count) || bounds::BLOCK_LIMIT < c.blocks {
         return 0;
     }
-    let rows = c.rows;
-    let blocks = c.blocks;
-    if bounds::BLOCK_LIMIT < blocks {
-        return 0;
-    }
-    rows + blocks
+    c.rows + c.blocks
 }
 
 // The verdict of a check that stopped at place k.
-fn check_with<'a>(views: &'a [u8], nulls: &'a [u8], c: Column, count: usize, k: usize) -> Why
+fn check_with<'a>(
+    views: &'a [u8],
+    nulls: &'a [u8],
+    c: Column,
+    count: usize,
+    k: usize,
+) -> Result<(), Refusal>
     ensures { (bytes : List ℕ) (table : List Block) → count ≡ length table
         → (fits (buffers views.now bytes table nulls.now) c ≡ true
         → Stopped (buffers views.now bytes table nulls.now) c k)
         → result ≡ why_invalid (buffers views.now bytes table nulls.now) c }
 {
     if !column::fits_with(views, nulls, c, count) {
-        return Why::Refused(Refusal::Fit);
+        return Err(Refusal::Fit);
     }
-    let rows = c.rows;
-    if k < rows {
-        return Why::Refused(Refusal::BadView(k));
+    if k < c.rows {
+        return Err(Refusal::BadView(k));
     }
-    let blocks = c.blocks;
-    if k - rows < blocks {
-        return Why::Refused(Refusal::Range);
+    if k - c.rows < c.blocks {
+        return Err(Refusal::Range);
     }
-    Why::Accepted
+    Ok(())
 }
 
 // Whether place k of the check holds.
@@ -292,11 +266,12 @@ pub fn stop_at<'a>(
 ) -> usize
     ensures { PlaceFound views.now bytes.now table.now c places result }
 {
-    let mut k = 0;
-    while holds(views, bytes, table, c, places, k) {
-        k += 1;
+    for k in 0..places {
+        if !holds(views, bytes, table, c, places, k) {
+            return k;
+        }
     }
-    k
+    places
 }
 
 // Why a column isn't valid: its numbers don't fit, the lowest row whose view isn't true, or a block outside the data.
@@ -306,11 +281,10 @@ pub fn check<'a>(
     table: &'a [Block],
     nulls: &'a [u8],
     c: Column,
-) -> Why
+) -> Result<(), Refusal>
     ensures { result ≡ why_invalid (buffers views.now bytes.now table.now nulls.now) c }
 {
-    let n = tables::count(table);
-    let places = places_with(views, nulls, c, n);
+    let places = places_with(views, nulls, c, table.len());
     let k = stop_at(views, bytes, table, c, places);
-    check_with(views, nulls, c, n, k)
+    check_with(views, nulls, c, table.len(), k)
 }

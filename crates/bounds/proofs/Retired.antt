@@ -1,10 +1,9 @@
 -- The retired number is no refusal's. Assumes nothing.
+use Rattle.std.specs.Prelude.{Ok, Err}
 use Rattle.std.proofs.Common.{◌≡◌, arith}
-use Rattle.bounds.specs.Refusals.{number_of, why_number, retired}
+use Rattle.bounds.specs.Refusals.{number_of, why_number, retired, Why}
 use Rattle.bounds.specs.declared.Refusal.{Refusal}
 use Rattle.bounds.specs.declared.Refusal.TheVariants.{Setting, Fit, Row, TooLong, RowRoom, BlockRoom, DataRoom, NoBlock, Range, NotUtf8, BadView, Offsets}
-use Rattle.bounds.specs.declared.Why.{Why}
-use Rattle.bounds.specs.declared.Why.TheVariants.{Accepted, Refused}
 
 -- no refusal has the retired number; so no verdict has, whose number is 0 or a refusal's
 pub none-retired : (r : Refusal) → number_of r ≡ retired → ⊥
@@ -22,5 +21,5 @@ none-retired (BadView r) e = omega arith
 none-retired Offsets e = omega arith
 
 pub never-retired : (w : Why) → why_number w ≡ retired → ⊥
-never-retired Accepted e = omega arith
-never-retired (Refused r) e = none-retired r e
+never-retired (Ok _) e = omega arith
+never-retired (Err r) e = none-retired r e

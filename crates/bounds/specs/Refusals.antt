@@ -1,10 +1,8 @@
 -- The paper's number for each refusal, the row that it names, and how a call's tests make its verdict. Assumes nothing.
-use Rattle.std.specs.Prelude.{ℕ, Bool, true, false, ◌≡◌, refl}
+use Rattle.std.specs.Prelude.{ℕ, Bool, true, false, ◌≡◌, refl, ⊤, Result, Ok, Err, is_ok}
 use Rattle.std.proofs.Common.{true≢false, sym}
 use Rattle.bounds.specs.declared.Refusal.{Refusal}
 use Rattle.bounds.specs.declared.Refusal.TheVariants.{Setting, Fit, Row, TooLong, RowRoom, BlockRoom, DataRoom, NoBlock, Range, NotUtf8, BadView, Offsets}
-use Rattle.bounds.specs.declared.Why.{Why}
-use Rattle.bounds.specs.declared.Why.TheVariants.{Accepted, Refused}
 
 abbrev pub number_of : Refusal → ℕ
 number_of Setting = 1
@@ -35,21 +33,27 @@ row_named NotUtf8 = 0
 row_named (BadView r) = r
 row_named Offsets = 0
 
+-- a call's verdict before it writes anything
+abbrev pub Why : Type 0
+Why = Result ⊤ Refusal
+
+abbrev pub accepted : Why
+accepted = Ok tt
+
 -- 0 where the call is accepted
 abbrev pub why_number : Why → ℕ
-why_number Accepted = 0
-why_number (Refused r) = number_of r
+why_number (Ok _) = 0
+why_number (Err r) = number_of r
 
 abbrev pub is_accepted : Why → Bool
-is_accepted Accepted = true
-is_accepted (Refused r) = false
+is_accepted w = is_ok w
 
 -- the number that document 01 had for a block number above 32 bits: no builder has such a block, and nothing else gets the number
 abbrev pub retired : ℕ
 retired = 12
 
 abbrev pub refuse_by : Refusal → Bool → Why → Why
-refuse_by r true w = Refused r
+refuse_by r true w = Err r
 refuse_by r false w = w
 
 -- r where the test holds, what the later tests say where it doesn't
@@ -58,11 +62,16 @@ refuse r b w = refuse_by r b w
 
 -- x where the call is accepted, else y
 abbrev pub if_accepted : {A : Type 0} → Why → A → A → A
-if_accepted Accepted x y = x
-if_accepted (Refused r) x y = y
+if_accepted (Ok _) x y = x
+if_accepted (Err r) x y = y
+
+-- what a call answers: x where it is accepted, else why it isn't
+abbrev pub answered : {A E : Type 0} → Result ⊤ E → A → Result A E
+answered (Ok _) x = Ok x
+answered (Err r) x = Err r
 
 -- a test that failed the call, one that let it pass, and what is known of a call that was accepted
-pub refuse-yes : (r : Refusal) (b : Bool) (w x : Why) → b ≡ true → x ≡ Refused r → x ≡ refuse r b w
+pub refuse-yes : (r : Refusal) (b : Bool) (w x : Why) → b ≡ true → x ≡ Err r → x ≡ refuse r b w
 unfolding refuse
 refuse-yes r b w x h e = rw h e
 
@@ -80,12 +89,19 @@ pub accepted-yes : {A : Type 0} (w w' : Why) (x y z : A) → w' ≡ w → is_acc
 accepted-yes w w' x y z e h p = go w (rw e at h)
   where
     go : (w : Why) → is_accepted w ≡ true → z ≡ if_accepted w x y
-    go Accepted k = p
-    go (Refused r) k = absurd (true≢false (sym k))
+    go (Ok _) k = p
+    go (Err r) k = absurd (true≢false (sym k))
 
 pub accepted-no : {A : Type 0} (w w' : Why) (x y z : A) → w' ≡ w → is_accepted w' ≡ false → z ≡ y → z ≡ if_accepted w x y
 accepted-no w w' x y z e h p = go w (rw e at h)
   where
     go : (w : Why) → is_accepted w ≡ false → z ≡ if_accepted w x y
-    go Accepted k = absurd (true≢false k)
-    go (Refused r) k = p
+    go (Ok _) k = absurd (true≢false k)
+    go (Err r) k = p
+
+-- the same of an answer
+pub answered-yes : {A E : Type 0} (w : Result ⊤ E) (x y : A) → Ok tt ≡ w → y ≡ x → Ok y ≡ answered w x
+answered-yes w x y e h = rw (← e, h)
+
+pub answered-no : {A E : Type 0} (w : Result ⊤ E) (x : A) (r : E) → Err r ≡ w → Err r ≡ answered w x
+answered-no w x r e = rw (← e)

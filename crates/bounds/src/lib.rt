@@ -2,7 +2,7 @@
 #![tactic(auto)]
 
 ghost use Rattle.std.specs.Prelude.{◌≡◌};
-ghost use Rattle.bounds.specs.Refusals.{number_of, row_named, why_number, is_accepted};
+ghost use Rattle.bounds.specs.Refusals.{number_of, row_named, why_number};
 
 // Rows, counted from row 0 of the views.
 pub const ROW_LIMIT: usize = 32767;
@@ -17,7 +17,7 @@ pub const BYTE_LIMIT: usize = 16777216;
 pub const MOST_COMPACTION: usize = 2147483647;
 
 // Why a call refuses, in the order of the numbers. BadView holds the lowest bad row, counted from the column's first.
-#[derive(Clone, Copy)]
+#[derive(Clone, Copy, PartialEq, Eq)]
 pub enum Refusal {
     Setting,
     Fit,
@@ -33,68 +33,44 @@ pub enum Refusal {
     Offsets,
 }
 
-// A call's verdict before it writes anything.
-#[derive(Clone, Copy)]
-pub enum Why {
-    Accepted,
-    Refused(Refusal),
-}
+impl Refusal {
+    // The refusal's number: 1 to 13, and never the retired one.
+    pub fn number(self) -> u8
+        ensures { result ≡ number_of self }
+    {
+        match self {
+            Refusal::Setting => 1,
+            Refusal::Fit => 2,
+            Refusal::Row => 3,
+            Refusal::TooLong => 4,
+            Refusal::RowRoom => 5,
+            Refusal::BlockRoom => 6,
+            Refusal::DataRoom => 7,
+            Refusal::NoBlock => 8,
+            Refusal::Range => 9,
+            Refusal::NotUtf8 => 10,
+            Refusal::BadView(_) => 11,
+            Refusal::Offsets => 13,
+        }
+    }
 
-// The refusal's number: 1 to 13, and never the retired one.
-pub fn number(r: Refusal) -> u8
-    ensures { result ≡ number_of r }
-{
-    match r {
-        Refusal::Setting => 1,
-        Refusal::Fit => 2,
-        Refusal::Row => 3,
-        Refusal::TooLong => 4,
-        Refusal::RowRoom => 5,
-        Refusal::BlockRoom => 6,
-        Refusal::DataRoom => 7,
-        Refusal::NoBlock => 8,
-        Refusal::Range => 9,
-        Refusal::NotUtf8 => 10,
-        Refusal::BadView(_) => 11,
-        Refusal::Offsets => 13,
+    // The row that the refusal names, 0 where it names none.
+    pub fn row(self) -> usize
+        ensures { result ≡ row_named self }
+    {
+        match self {
+            Refusal::BadView(k) => k,
+            _ => 0,
+        }
     }
 }
 
-// The row that the refusal names, 0 where it names none.
-pub fn row(r: Refusal) -> usize
-    ensures { result ≡ row_named r }
-{
-    match r {
-        Refusal::Setting => 0,
-        Refusal::Fit => 0,
-        Refusal::Row => 0,
-        Refusal::TooLong => 0,
-        Refusal::RowRoom => 0,
-        Refusal::BlockRoom => 0,
-        Refusal::DataRoom => 0,
-        Refusal::NoBlock => 0,
-        Refusal::Range => 0,
-        Refusal::NotUtf8 => 0,
-        Refusal::BadView(k) => k,
-        Refusal::Offsets => 0,
-    }
-}
-
-// 0 where the call is accepted, the refusal's number where it isn't.
-pub fn why_number(w: Why) -> u8
+// 0 where a call is accepted, the refusal's number where it isn't.
+pub fn why_number(w: Result<(), Refusal>) -> u8
     ensures { result ≡ why_number w }
 {
     match w {
-        Why::Accepted => 0,
-        Why::Refused(r) => number(r),
-    }
-}
-
-pub fn is_accepted(w: Why) -> bool
-    ensures { result ≡ is_accepted w }
-{
-    match w {
-        Why::Accepted => true,
-        Why::Refused(_) => false,
+        Ok(()) => 0,
+        Err(r) => r.number(),
     }
 }

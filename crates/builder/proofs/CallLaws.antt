@@ -1,14 +1,12 @@
 -- The value call's contract from what its parts leave, case by case. Assumes nothing.
-use Rattle.std.specs.Prelude.{◌≡◌, Bool, false, List, ℕ, suc, ◌+◌, ◌-◌, ◌*◌, ◌≤◌, ◌<◌, length}
+use Rattle.std.specs.Prelude.{◌≡◌, Bool, false, List, ℕ, suc, ◌+◌, ◌-◌, ◌*◌, ◌≤◌, ◌<◌, length, Ok, Err}
 use Rattle.std.proofs.Math.Path.{refl, ap}
 use Rattle.std.proofs.Common.{sym, ◌∙◌, add-one, eq-eqb, ne_eqb, arith}
 use Rattle.std.proofs.Math.Bool.{true}
 use Rattle.null_bits.specs.Runs.{put_run}
 use Rattle.std.proofs.Math.Seq.{paste}
 use Rattle.basis.specs.Pick.{pick}
-use Rattle.bounds.specs.Refusals.{is_accepted, if_accepted}
-use Rattle.bounds.specs.declared.Why.{Why}
-use Rattle.bounds.specs.declared.Why.TheVariants.{Accepted, Refused}
+use Rattle.bounds.specs.Refusals.{is_accepted, if_accepted, accepted, Why}
 use Rattle.null_bits.specs.Bits.{put_bit}
 use Rattle.views.specs.View.{is_short, short_most, view_at, short_view, long_view}
 use Rattle.merging.specs.declared.Found.{Found}
@@ -32,7 +30,7 @@ bytes-room-le n = omega arith
 module _ (s : State) (vs bs ss ns ms ps x : List ℕ) where
   pub does-short : {s' : State} {vs' ms' : List ℕ} → length x ≤ short_most → s' ≡ rowed true s → vs' ≡ paste vs (16 * s.rows) (short_view x) 16
       → ms' ≡ put_bit ms s.rows true
-      → Does (λ b. why_store b x) (put_value x) s vs bs ss ns ms ps (answer Accepted s') vs' bs ss ns ms' ps
+      → Does (λ b. why_store b x) (put_value x) s vs bs ss ns ms ps (answer accepted s') vs' bs ss ns ms' ps
   unfolding add_row
   does-short h st v nu =
       does-put (λ b. why_store b x) (put_value x) s vs bs ss ns ms ps (add_row (short_view x) true (held s vs bs ss ns ms ps)) (store-short s vs bs ss ns
@@ -46,7 +44,7 @@ module _ (s : State) (vs bs ss ns ms ps x : List ℕ) where
 
     pub does-row : (t : Bool) (r : ℕ) {s' : State} {vs' ms' : List ℕ} → t ≡ is_row f → t ≡ true → r ≡ row_of f → s' ≡ rowed true s
         → vs' ≡ paste vs (16 * s.rows) (view_at vs r) 16
-        → ms' ≡ put_bit ms s.rows true → Does (λ b. why_store b x) (put_value x) s vs bs ss ns ms ps (answer Accepted s') vs' bs ss ns ms' ps
+        → ms' ≡ put_bit ms s.rows true → Does (λ b. why_store b x) (put_value x) s vs bs ss ns ms ps (answer accepted s') vs' bs ss ns ms' ps
     unfolding add_row
     does-row t r et h er st v nu =
         does-put (λ b. why_store b x) (put_value x) s vs bs ss ns ms ps (add_row (view_at vs (row_of f)) true (held s vs bs ss ns ms ps))
@@ -70,7 +68,7 @@ module _ (s : State) (vs bs ss ns ms ps x : List ℕ) where
           → ns' ≡ pick (fits_open s (length x)) ns (open_lens s ns)
           → ms' ≡ put_bit ms s.rows true
           → ps' ≡ entered f (suc s.rows) ps
-          → Does (λ b. why_store b x) (put_value x) s vs bs ss ns ms ps (answer Accepted s') vs' bs' ss' ns' ms' ps'
+          → Does (λ b. why_store b x) (put_value x) s vs bs ss ns ms ps (answer accepted s') vs' bs' ss' ns' ms' ps'
       does-lay k a hs hn ek st v by sta le nu pl =
           does-put (λ b. why_store b x) (put_value x) s vs bs ss ns ms ps (stored s vs bs ss ns ms ps x f is long)
           (is-accepted w (why_store (held s vs bs ss ns ms ps) x) lay-is a)
@@ -131,16 +129,16 @@ module _ (s : State) (vs bs ss ns ms ps x : List ℕ) (n : ℕ) (on : why_values
       (go (why_store here x) (ap is_accepted (sym verdict) ∙ h) ∙ ap (λ (w : Why). if_accepted w (put_values n x here) here) (sym on)) d
     where
       go : (w : Why) → is_accepted w ≡ false → if_accepted w (put_value x here) here ≡ if_accepted w (put_values n x here) here
-      go Accepted k = absurd (let z : ◌≡◌ {A = ℕ} 0 1 = cc in omega arith)
-      go (Refused z) k = refl
+      go (Ok _) k = absurd (let z : ◌≡◌ {A = ℕ} 0 1 = cc in omega arith)
+      go (Err z) k = refl
 
   -- it is added, and its row copied
   pub does-many : {s'' : State} {vs'' ms'' : List ℕ} → (n ≡ 0 → ⊥) → is_accepted r.why ≡ true → s'' ≡ rowed_by (n - 1) r.state
       → vs'' ≡ put_copies vs' (s.rows + 1) (view_at vs' s.rows) (n - 1) → ms'' ≡ put_run ms' (s.rows + 1) (n - 1) true
-      → Does (λ b. why_values n b x) (put_values n x) s vs bs ss ns ms ps (answer Accepted s'') vs'' bs' ss' ns' ms'' ps'
+      → Does (λ b. why_values n b x) (put_values n x) s vs bs ss ns ms ps (answer accepted s'') vs'' bs' ss' ns' ms'' ps'
   does-many ne h st v nu =
       let p = put_value x here in
-      let w : why_store here x ≡ Accepted = is-accepted r.why (why_store here x) verdict h in
+      let w : why_store here x ≡ accepted = is-accepted r.why (why_store here x) verdict h in
       let e : if_accepted (why_store here x) p here ≡ p = ap (λ (z : Why). if_accepted z p here) w in
       let state : r.state ≡ p.state = ap (λ (z : Answer). z.state) d.answers ∙ ap (λ (z : Builder). z.state) e in
       let views : vs' ≡ p.lent.views = d.views ∙ ap (λ (z : Builder). z.lent.views) e in
@@ -158,6 +156,6 @@ module _ (s : State) (vs bs ss ns ms ps x : List ℕ) (n : ℕ) (on : why_values
 
   pub does-rows : is_accepted r.why ≡ true → r.state.rows ≡ s.rows + 1
   does-rows h =
-      let w : why_store here x ≡ Accepted = is-accepted r.why (why_store here x) verdict h in
+      let w : why_store here x ≡ accepted = is-accepted r.why (why_store here x) verdict h in
       let e : if_accepted (why_store here x) (put_value x here) here ≡ put_value x here = ap (λ (z : Why). if_accepted z (put_value x here) here) w in
       ap (λ (z : Answer). z.state.rows) d.answers ∙ ap (λ (z : Builder). z.state.rows) e ∙ put-rows x here

@@ -1,5 +1,5 @@
 -- A state that fits its buffers still fits them after a value is added. Assumes nothing.
-use Rattle.std.specs.Prelude.{◌≡◌, Bool, ◌&&◌, List, length}
+use Rattle.std.specs.Prelude.{◌≡◌, Bool, ◌&&◌, List, length, Ok, Err}
 use Rattle.std.proofs.Math.Path.{refl}
 use Rattle.std.proofs.Common.{sym, ap, ◌∙◌, arith}
 use Rattle.std.proofs.Math.Bool.{true, false, not}
@@ -7,10 +7,8 @@ use Prim.Native.Nat.{ℕ, suc, ◌+◌, ◌≤◌, ◌<◌}
 use borrow.Author.Tests.{le-leb, leb-true, leb-false, ne_eqb}
 use Rattle.std.proofs.Math.Dec.{leb}
 use Rattle.basis.specs.Pick.{pick}
-use Rattle.bounds.specs.Refusals.{is_accepted, if_accepted, accepted-both}
+use Rattle.bounds.specs.Refusals.{is_accepted, if_accepted, accepted-both, accepted, Why}
 use Rattle.bounds.specs.declared.Refusal.TheVariants.{BlockRoom}
-use Rattle.bounds.specs.declared.Why.{Why}
-use Rattle.bounds.specs.declared.Why.TheVariants.{Accepted, Refused}
 use Rattle.growth.specs.GrowthLaws.{grown-fits}
 use Rattle.growth.specs.Growing.{fits_growth}
 use Rattle.views.specs.View.{is_short, short_most, short_view, view_at}
@@ -122,29 +120,29 @@ module _ (b : Builder) (x : List ℕ) where
   module _ (rows blocks bytes : ℕ) (room : s.rows < rows) (f : Fits s rows blocks bytes) where
     -- what is left, by the tests
     abbrev after : Bool → Bool → Why → State
-    after t u w = if_accepted (pick t Accepted (pick u Accepted w)) (pick t (rowed true s) (pick u (rowed true s) stored)) s
+    after t u w = if_accepted (pick t accepted (pick u accepted w)) (pick t (rowed true s) (pick u (rowed true s) stored)) s
 
     after-fits : (t u : Bool) (w : Why) → is_short (length x) ≡ t → w ≡ why_lay s blocks bytes (length x) → Fits (after t u w) rows blocks bytes
     after-fits true u w e q = fits-row s rows blocks bytes room f
     after-fits false true w e q = fits-row s rows blocks bytes room f
-    after-fits false false Accepted e q =
+    after-fits false false (Ok _) e q =
         let l = leb-false (length x) short_most e in
         let k = rooms-laid s rows blocks bytes (length x) (omega arith) f (ap is_accepted (sym q)) in
         fits-row (laid (length x) (roomed (length x) s)) rows blocks bytes (omega (arith, room, room-rows s (length x))) k
-    after-fits false false (Refused r) e q = f
+    after-fits false false (Err r) e q = f
 
     after-merging : (t u : Bool) (w : Why) → (after t u w).merging ≡ s.merging
     after-merging true u w = refl
     after-merging false true w = refl
-    after-merging false false Accepted = room-merging (length x) s
-    after-merging false false (Refused r) = refl
+    after-merging false false (Ok _) = room-merging (length x) s
+    after-merging false false (Err r) = refl
 
   left_is : (left (λ b. why_store b x) (put_value x) b).state ≡ if_accepted (why_store b x) (put_value x b).state s
   left_is = by (why_store b x)
     where
       by : (w : Why) → (if_accepted w (put_value x b) b).state ≡ if_accepted w (put_value x b).state s
-      by Accepted = refl
-      by (Refused r) = refl
+      by (Ok _) = refl
+      by (Err r) = refl
 
   module _ (fit : fits_state b ≡ true) (room : s.rows < rows_room b) where
     pub left-fits : fits_rooms (left (λ b. why_store b x) (put_value x) b).state (rows_room b) (block_room b.lent) (data_room b.lent) ≡ true

@@ -11,9 +11,8 @@ use Rattle.std.proofs.Math.Dec.{leb}
 use Rattle.std.proofs.Math.ListN.{length}
 use Rattle.std.proofs.Math.Seq.{paste}
 use Rattle.basis.specs.Pick.{pick}
-use Rattle.bounds.specs.Refusals.{refuse, is_accepted, accepted-both}
+use Rattle.bounds.specs.Refusals.{refuse, is_accepted, accepted-both, accepted}
 use Rattle.bounds.specs.declared.Refusal.TheVariants.{BlockRoom, DataRoom}
-use Rattle.bounds.specs.declared.Why.TheVariants.{Accepted}
 use Rattle.order.specs.Order.{same}
 use Rattle.hash.specs.Hash.{hash_of}
 use Rattle.null_bits.specs.Bits.{put_bit}
@@ -210,7 +209,7 @@ module _ (s : State) (vs bs ss ns ms : List ℕ) (hs : all_blocks s ≤ length s
 -- ---- the value call, case by case
 
 module _ (s : State) (vs bs ss ns ms ps x : List ℕ) where
-  pub store-short : length x ≤ short_most → why_store (held s vs bs ss ns ms ps) x ≡ Accepted
+  pub store-short : length x ≤ short_most → why_store (held s vs bs ss ns ms ps) x ≡ accepted
   unfolding why_store
   store-short h = rw (le-leb (length x) short_most h)
 
@@ -219,7 +218,7 @@ module _ (s : State) (vs bs ss ns ms ps x : List ℕ) where
   put-short h = rw (le-leb (length x) short_most h)
 
   module _ (f : Found) (e : f ≡ found (held s vs bs ss ns ms ps) x) (long : short_most < length x) where
-    pub store-row : is_row f ≡ true → why_store (held s vs bs ss ns ms ps) x ≡ Accepted
+    pub store-row : is_row f ≡ true → why_store (held s vs bs ss ns ms ps) x ≡ accepted
     unfolding why_store
     store-row h = rw (lt-leb (length x) short_most long, ← e, h)
 

@@ -1,12 +1,11 @@
 -- The small steps, as the code takes them. Assumes nothing.
-use Rattle.std.specs.Prelude.{◌≡◌, Bool, true, false, not, ◌&&◌, List, ℕ, ◌+◌, max, ◌≤◌, ◌<◌, leb, set}
+use Rattle.std.specs.Prelude.{◌≡◌, Bool, true, false, not, ◌&&◌, List, ℕ, ◌+◌, max, ◌≤◌, ◌<◌, leb, set, Err}
 use Rattle.std.proofs.Math.Path.{ap}
 use Rattle.std.proofs.Common.{◌∙◌}
 use borrow.Author.Tests.{lt-ltb, le-ltb, eq-eqb, ne_eqb}
 use Rattle.basis.specs.Pick.{pick}
-use Rattle.bounds.specs.Refusals.{refuse}
+use Rattle.bounds.specs.Refusals.{refuse, accepted}
 use Rattle.bounds.specs.declared.Refusal.TheVariants.{BlockRoom, DataRoom}
-use Rattle.bounds.specs.declared.Why.TheVariants.{Accepted, Refused}
 use Rattle.growth.specs.Growing.{fits_growth, size_of, grown, step_why, step_of}
 use Rattle.growth.specs.declared.Step.{Step}
 use Rattle.builder.specs.declared.State.{State}
@@ -56,15 +55,15 @@ module _ (s : State) (blocks bytes n : ℕ) where
   pub a_block : (t : Bool) → t ≡ fits_open s n → t ≡ false → leb blocks (all_blocks s) ≡ not (fits_open s n) && leb blocks (all_blocks s)
   a_block t e h = rw (← e, h)
 
-  pub lay-no-block : (t : Bool) → t ≡ not (fits_open s n) && leb blocks (all_blocks s) → t ≡ true → Refused BlockRoom ≡ why_lay s blocks bytes n
+  pub lay-no-block : (t : Bool) → t ≡ not (fits_open s n) && leb blocks (all_blocks s) → t ≡ true → Err BlockRoom ≡ why_lay s blocks bytes n
   unfolding why_lay refuse
   lay-no-block t e h = rw (← e, h)
 
-  pub lay-no-data : (t : Bool) → t ≡ not (fits_open s n) && leb blocks (all_blocks s) → t ≡ false → bytes < used s + n → Refused DataRoom
+  pub lay-no-data : (t : Bool) → t ≡ not (fits_open s n) && leb blocks (all_blocks s) → t ≡ false → bytes < used s + n → Err DataRoom
       ≡ why_lay s blocks bytes n
   unfolding why_lay refuse
   lay-no-data t e h g = rw (← e, h, lt-ltb bytes (used s + n) g)
 
-  pub lay-fine : (t : Bool) → t ≡ not (fits_open s n) && leb blocks (all_blocks s) → t ≡ false → used s + n ≤ bytes → Accepted ≡ why_lay s blocks bytes n
+  pub lay-fine : (t : Bool) → t ≡ not (fits_open s n) && leb blocks (all_blocks s) → t ≡ false → used s + n ≤ bytes → accepted ≡ why_lay s blocks bytes n
   unfolding why_lay refuse
   lay-fine t e h g = rw (← e, h, le-ltb bytes (used s + n) g)

@@ -1,6 +1,6 @@
 -- What a call says of what it answers and of each buffer that it is lent. Assumes nothing.
 use Rattle.std.specs.Prelude.{◌≡◌, List, [], ◌∷◌, ℕ}
-use Rattle.bounds.specs.declared.Why.{Why}
+use Rattle.bounds.specs.Refusals.{Why}
 use Rattle.column.specs.declared.Block.{Block}
 use Rattle.builder.specs.declared.State.{State}
 use Rattle.builder.specs.declared.Answer.{Answer}

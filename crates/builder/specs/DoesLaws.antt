@@ -1,10 +1,8 @@
 -- The two number slices of a table; a call that is refused, and one that is accepted. Assumes nothing.
-use Rattle.std.specs.Prelude.{◌≡◌, refl, Bool, true, false, List, [], ◌∷◌, ℕ, zero, suc, ◌<◌, length, set}
+use Rattle.std.specs.Prelude.{◌≡◌, refl, Bool, true, false, List, [], ◌∷◌, ℕ, zero, suc, ◌<◌, length, set, Ok, Err}
 use Rattle.std.proofs.Common.{sym, ap, subst, ◌∙◌, arith}
 use Rattle.basis.specs.Pick.{pick}
-use Rattle.bounds.specs.Refusals.{is_accepted}
-use Rattle.bounds.specs.declared.Why.{Why}
-use Rattle.bounds.specs.declared.Why.TheVariants.{Accepted, Refused}
+use Rattle.bounds.specs.Refusals.{is_accepted, accepted, Why}
 use Rattle.column.specs.declared.Block.{Block}
 use Rattle.column.specs.declared.Kind.{Kind}
 use Rattle.growth.specs.declared.Growth.{Growth}
@@ -67,8 +65,8 @@ module _ (why : Builder → Why) (put : Builder → Builder) (s : State) (vs bs 
   does-no w e h = go w h e
     where
       go : (w : Why) → is_accepted w ≡ false → w ≡ why (held s vs bs ss ns ms ps) → Does why put s vs bs ss ns ms ps (answer w s) vs bs ss ns ms ps
-      go Accepted k d = absurd (let z : ◌≡◌ {A = ℕ} 0 1 = cc in omega arith)
-      go (Refused z) k d =
+      go (Ok _) k d = absurd (let z : ◌≡◌ {A = ℕ} 0 1 = cc in omega arith)
+      go (Err z) k d =
           record {
             answers = rw (← d);
             views = rw (← d);
@@ -80,13 +78,13 @@ module _ (why : Builder → Why) (put : Builder → Builder) (s : State) (vs bs 
           }
 
   -- accepted: what it puts, field by field
-  pub does-put : (e : Builder) {s' : State} {vs' bs' ss' ns' ms' ps' : List ℕ} → why (held s vs bs ss ns ms ps) ≡ Accepted → e ≡ put (held s vs bs ss ns ms ps)
+  pub does-put : (e : Builder) {s' : State} {vs' bs' ss' ns' ms' ps' : List ℕ} → why (held s vs bs ss ns ms ps) ≡ accepted → e ≡ put (held s vs bs ss ns ms ps)
       → s' ≡ e.state → vs' ≡ e.lent.views → bs' ≡ e.lent.bytes → ss' ≡ starts_of e.lent.table ss → ns' ≡ lens_of e.lent.table ns
       → ms' ≡ e.lent.nulls → ps' ≡ e.places
-      → Does why put s vs bs ss ns ms ps (answer Accepted s') vs' bs' ss' ns' ms' ps'
+      → Does why put s vs bs ss ns ms ps (answer accepted s') vs' bs' ss' ns' ms' ps'
   does-put e d p st v by sta le nu pl =
       record {
-        answers = rw (d, ← p) (ap (answer Accepted) st);
+        answers = rw (d, ← p) (ap (answer accepted) st);
         views = rw (d, ← p) v;
         bytes = rw (d, ← p) by;
         starts = rw (d, ← p) sta;
@@ -95,7 +93,7 @@ module _ (why : Builder → Why) (put : Builder → Builder) (s : State) (vs bs 
         places = rw (d, ← p) pl;
       }
 
-  pub does-yes : {s' : State} {vs' bs' ss' ns' ms' ps' : List ℕ} → why (held s vs bs ss ns ms ps) ≡ Accepted
+  pub does-yes : {s' : State} {vs' bs' ss' ns' ms' ps' : List ℕ} → why (held s vs bs ss ns ms ps) ≡ accepted
       → s' ≡ (put (held s vs bs ss ns ms ps)).state
       → vs' ≡ (put (held s vs bs ss ns ms ps)).lent.views
       → bs' ≡ (put (held s vs bs ss ns ms ps)).lent.bytes
@@ -103,9 +101,9 @@ module _ (why : Builder → Why) (put : Builder → Builder) (s : State) (vs bs 
       → ns' ≡ lens_of (put (held s vs bs ss ns ms ps)).lent.table ns
       → ms' ≡ (put (held s vs bs ss ns ms ps)).lent.nulls
       → ps' ≡ (put (held s vs bs ss ns ms ps)).places
-      → Does why put s vs bs ss ns ms ps (answer Accepted s') vs' bs' ss' ns' ms' ps'
+      → Does why put s vs bs ss ns ms ps (answer accepted s') vs' bs' ss' ns' ms' ps'
   does-yes d st v by sta le nu pl =
-      record { answers = rw d (ap (answer Accepted) st); views = rw d v; bytes = rw d by; starts = rw d sta; lens = rw d le; nulls = rw d nu; places = rw d pl }
+      record { answers = rw d (ap (answer accepted) st); views = rw d v; bytes = rw d by; starts = rw d sta; lens = rw d le; nulls = rw d nu; places = rw d pl }
 
 -- a call that on these buffers leaves what another leaves
 pub does-left : (why why' : Builder → Why) (put put' : Builder → Builder) (s : State) (vs bs ss ns ms ps : List ℕ) {r : Answer}

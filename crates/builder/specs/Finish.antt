@@ -1,9 +1,7 @@
 -- Both finishes. Assumes nothing.
 use Rattle.std.specs.Prelude.{false, not}
-use Rattle.bounds.specs.Refusals.{refuse, if_accepted}
+use Rattle.bounds.specs.Refusals.{refuse, if_accepted, accepted, Why}
 use Rattle.bounds.specs.declared.Refusal.TheVariants.{Fit}
-use Rattle.bounds.specs.declared.Why.{Why}
-use Rattle.bounds.specs.declared.Why.TheVariants.{Accepted}
 use Rattle.column.specs.declared.Column.{Column}
 use Rattle.builder.specs.declared.State.{State}
 use Rattle.builder.specs.Get.{column_of}
@@ -11,7 +9,7 @@ use Rattle.builder.specs.State.{Builder, builder, moved, fits_state, recorded}
 use Rattle.builder.specs.Start.{cleared}
 
 unfoldable pub why_finish : Builder → Why
-why_finish b = refuse Fit (not (fits_state b)) Accepted
+why_finish b = refuse Fit (not (fits_state b)) accepted
 
 -- finish-by-copy writes the open block's record, and the state stays
 unfoldable pub copied : Builder → Builder

@@ -4,10 +4,8 @@ use Rattle.std.proofs.Math.Seq.{paste}
 use Rattle.basis.specs.Pick.{pick}
 use Rattle.words.specs.Words.{enc}
 use Rattle.bounds.specs.Bounds.{byte_limit}
-use Rattle.bounds.specs.Refusals.{refuse, if_accepted}
+use Rattle.bounds.specs.Refusals.{refuse, if_accepted, accepted, Why}
 use Rattle.bounds.specs.declared.Refusal.TheVariants.{Fit, TooLong, NotUtf8, RowRoom, BlockRoom, DataRoom, NoBlock, Range}
-use Rattle.bounds.specs.declared.Why.{Why}
-use Rattle.bounds.specs.declared.Why.TheVariants.{Accepted}
 use Rattle.views.specs.View.{length_of, block_of, is_short, make_view}
 use Rattle.column.specs.declared.Column.{Column}
 use Rattle.column.specs.Lent.{Lent, buffers, block, block_at, in_data, all_in_data, fits, block_room, data_room}
@@ -33,7 +31,7 @@ lay_blocks (suc n) f b = lay_block (f n) (lay_blocks n f b)
 
 -- n blocks and m bytes more than all that is there, in rooms for so many blocks and bytes
 unfoldable pub why_room : State → ℕ → ℕ → ℕ → ℕ → Why
-why_room s blocks bytes n m = refuse BlockRoom (ltb blocks (all_blocks s + n)) (refuse DataRoom (ltb bytes (used s + m)) Accepted)
+why_room s blocks bytes n m = refuse BlockRoom (ltb blocks (all_blocks s + n)) (refuse DataRoom (ltb bytes (used s + m)) accepted)
 
 unfoldable pub why_block : Builder → List ℕ → Why
 why_block b x =
@@ -56,7 +54,7 @@ why_view b k offset n =
     refuse Fit (not (fits_state b))
     (refuse NoBlock (leb b.state.blocks k)
     (refuse Range (not (in_data b.lent (block_at b.lent k) && leb (offset + n) (block_at b.lent k).len))
-    (refuse NotUtf8 (not (of_kind b.state.kind (viewed b k offset n))) (refuse RowRoom (leb (rows_room b) b.state.rows) Accepted))))
+    (refuse NotUtf8 (not (of_kind b.state.kind (viewed b k offset n))) (refuse RowRoom (leb (rows_room b) b.state.rows) accepted))))
 
 unfoldable pub put_view : ℕ → ℕ → ℕ → Builder → Builder
 put_view k offset n b = add_row (make_view (viewed b k offset n) k offset) true b

@@ -1,5 +1,5 @@
 -- When a state fits its rooms, test by test; what an accepted call knows of the buffers; the value and null calls' verdicts. Assumes nothing.
-use Rattle.std.specs.Prelude.{◌≡◌, Bool, not, List, ℕ, suc, ◌+◌, ◌*◌, ◌/◌, min, ◌≤◌, ◌<◌, leb, ltb, eqb, length}
+use Rattle.std.specs.Prelude.{◌≡◌, Bool, not, List, ℕ, suc, ◌+◌, ◌*◌, ◌/◌, min, ◌≤◌, ◌<◌, leb, ltb, eqb, length, Ok, Err}
 use Rattle.std.proofs.Math.Path.{refl}
 use Rattle.std.proofs.Common.{sym, ◌∙◌, add-one}
 use Rattle.std.proofs.Math.Bool.{true, false}
@@ -7,11 +7,9 @@ use native.Mathlib.Omega.{arith}
 use borrow.Author.Tests.{le-leb, lt-leb, lt-ltb, le-ltb, leb-true, leb-false, ltb-false, eq-eqb, ne_eqb, not-false}
 use Rattle.basis.specs.Pick.{pick}
 use Rattle.bounds.specs.Bounds.{row_limit, block_limit, byte_limit}
-use Rattle.bounds.specs.Refusals.{refuse, is_accepted, accepted-both}
+use Rattle.bounds.specs.Refusals.{refuse, is_accepted, accepted-both, accepted, Why}
 use Rattle.bounds.specs.declared.Refusal.{Refusal}
 use Rattle.bounds.specs.declared.Refusal.TheVariants.{Fit, TooLong, NotUtf8, RowRoom}
-use Rattle.bounds.specs.declared.Why.{Why}
-use Rattle.bounds.specs.declared.Why.TheVariants.{Accepted, Refused}
 use Rattle.growth.specs.Growing.{fits_growth}
 use Rattle.column.specs.declared.Kind.{Kind}
 use Rattle.column.specs.Lent.{lent, row_room, block_room, data_room}
@@ -87,14 +85,14 @@ module _ (s : State) (vs bs ss ns ms ps : List ℕ) where
     unfolding fits_state
     fits-is = rw (er ∙ rows-room-is, eb ∙ blocks-room-is, ed ∙ bytes-room-is)
 
-    pub null_is : refuse Fit (not (fits_rooms s rows blocks bytes)) (refuse RowRoom (leb rows s.rows) Accepted) ≡ why_null (held s vs bs ss ns ms ps)
+    pub null_is : refuse Fit (not (fits_rooms s rows blocks bytes)) (refuse RowRoom (leb rows s.rows) accepted) ≡ why_null (held s vs bs ss ns ms ps)
     unfolding why_null
     null_is = rw (fits-is, er ∙ rows-room-is)
 
-    pub first-is : (x : List ℕ) (n : ℕ) → refuse Fit (not (fits_rooms s rows blocks bytes)) (pick (eqb n 0) Accepted (why_rows s.kind x s.rows n
-        rows Accepted))
-        ≡ refuse Fit (not (fits_state (held s vs bs ss ns ms ps))) (pick (eqb n 0) Accepted (why_rows s.kind x s.rows n
-        (rows_room (held s vs bs ss ns ms ps)) Accepted))
+    pub first-is : (x : List ℕ) (n : ℕ) → refuse Fit (not (fits_rooms s rows blocks bytes)) (pick (eqb n 0) accepted (why_rows s.kind x s.rows n
+        rows accepted))
+        ≡ refuse Fit (not (fits_state (held s vs bs ss ns ms ps))) (pick (eqb n 0) accepted (why_rows s.kind x s.rows n
+        (rows_room (held s vs bs ss ns ms ps)) accepted))
     first-is x n = rw (fits-is, er ∙ rows-room-is)
 
   -- what a state that fits keeps to
@@ -153,28 +151,28 @@ module _ (s : State) (vs bs ss ns ms ps : List ℕ) where
   null-fine a =
       let b = held s vs bs ss ns ms ps in
       let f = accepted-both Fit (not (fits_state b)) _ a in
-      let r = accepted-both RowRoom (leb (rows_room b) s.rows) Accepted f.1 in
+      let r = accepted-both RowRoom (leb (rows_room b) s.rows) accepted f.1 in
       record { fit = not-false (fits_state b) f.0; room = room-gives (leb-false (rows_room b) s.rows r.0) }
 
-pub accepted-is : (w : Why) → is_accepted w ≡ true → w ≡ Accepted
-accepted-is Accepted h = refl
-accepted-is (Refused r) h = absurd (let z : ◌≡◌ {A = ℕ} 0 1 = cc in omega arith)
+pub accepted-is : (w : Why) → is_accepted w ≡ true → w ≡ accepted
+accepted-is (Ok _) h = refl
+accepted-is (Err r) h = absurd (let z : ◌≡◌ {A = ℕ} 0 1 = cc in omega arith)
 
-pub is-accepted : (w v : Why) → w ≡ v → is_accepted w ≡ true → v ≡ Accepted
+pub is-accepted : (w v : Why) → w ≡ v → is_accepted w ≡ true → v ≡ accepted
 is-accepted w v e h = accepted-is v (rw e at h)
 
 -- ---- a value's first tests: those before it is looked for
 
 module _ (kind : Kind) (x : List ℕ) (rows more room : ℕ) where
-  pub row-long : (w : Why) → byte_limit < length x → Refused TooLong ≡ why_rows kind x rows more room w
+  pub row-long : (w : Why) → byte_limit < length x → Err TooLong ≡ why_rows kind x rows more room w
   unfolding why_rows refuse
   row-long w h = rw (lt-ltb byte_limit (length x) h)
 
-  pub row-kind : (w : Why) → length x ≤ byte_limit → of_kind kind x ≡ false → Refused NotUtf8 ≡ why_rows kind x rows more room w
+  pub row-kind : (w : Why) → length x ≤ byte_limit → of_kind kind x ≡ false → Err NotUtf8 ≡ why_rows kind x rows more room w
   unfolding why_rows refuse
   row-kind w h k = rw (le-ltb byte_limit (length x) h, k)
 
-  pub row-over : (w : Why) → length x ≤ byte_limit → of_kind kind x ≡ true → room < rows + more → Refused RowRoom ≡ why_rows kind x rows more room w
+  pub row-over : (w : Why) → length x ≤ byte_limit → of_kind kind x ≡ true → room < rows + more → Err RowRoom ≡ why_rows kind x rows more room w
   unfolding why_rows refuse
   row-over w h k r = rw (le-ltb byte_limit (length x) h, k, lt-ltb room (rows + more) r)
 
@@ -193,7 +191,7 @@ unfolding refuse
 refuse-on r true v w u f h = absurd (let z : ◌≡◌ {A = ℕ} 0 1 = cc in omega arith)
 refuse-on r false v w u f h = f h
 
-pub never : (w : Why) → is_accepted Accepted ≡ false → Accepted ≡ w
+pub never : (w : Why) → is_accepted accepted ≡ false → accepted ≡ w
 never w h = absurd (let z : ◌≡◌ {A = ℕ} 0 1 = cc in omega arith)
 
 module _ (b : Builder) (x : List ℕ) where
@@ -208,33 +206,33 @@ module _ (b : Builder) (x : List ℕ) where
     rows_of w = why_rows b.state.kind x b.state.rows n (rows_room b) w
 
     abbrev pub first_of : Why
-    first_of = refuse Fit (not (fits_state b)) (pick (eqb n 0) Accepted (rows_of Accepted))
+    first_of = refuse Fit (not (fits_state b)) (pick (eqb n 0) accepted (rows_of accepted))
 
-    row-no : is_accepted (rows_of Accepted) ≡ false → rows_of Accepted ≡ rows_of (why_store b x)
+    row-no : is_accepted (rows_of accepted) ≡ false → rows_of accepted ≡ rows_of (why_store b x)
     unfolding why_rows
     row-no h =
         refuse-same TooLong (ltb byte_limit (length x)) _ _
         (refuse-same NotUtf8 (not (of_kind b.state.kind x)) _ _
-        (refuse-same RowRoom (ltb (rows_room b) (b.state.rows + n)) Accepted (why_store b x) (never (why_store b x)))) h
+        (refuse-same RowRoom (ltb (rows_room b) (b.state.rows + n)) accepted (why_store b x) (never (why_store b x)))) h
 
-    row-yes : is_accepted (rows_of Accepted) ≡ true → rows_of (why_store b x) ≡ why_store b x
+    row-yes : is_accepted (rows_of accepted) ≡ true → rows_of (why_store b x) ≡ why_store b x
     unfolding why_rows
     row-yes h =
         refuse-on TooLong (ltb byte_limit (length x)) _ _ (why_store b x)
         (refuse-on NotUtf8 (not (of_kind b.state.kind x)) _ _ (why_store b x)
-        (refuse-on RowRoom (ltb (rows_room b) (b.state.rows + n)) Accepted (why_store b x) (why_store b x) (λ z. refl))) h
+        (refuse-on RowRoom (ltb (rows_room b) (b.state.rows + n)) accepted (why_store b x) (why_store b x) (λ z. refl))) h
 
     pub value-no : is_accepted first_of ≡ false → first_of ≡ why_values n b x
     unfolding why_values
     value-no h = refuse-same Fit (not (fits_state b)) _ _ (by (eqb n 0)) h
       where
-        by : (t : Bool) → is_accepted (pick t Accepted (rows_of Accepted)) ≡ false → pick t Accepted (rows_of Accepted) ≡ pick t Accepted (rows_of (why_store b x))
+        by : (t : Bool) → is_accepted (pick t accepted (rows_of accepted)) ≡ false → pick t accepted (rows_of accepted) ≡ pick t accepted (rows_of (why_store b x))
         by true k = refl
         by false k = row-no k
 
-    pub value_none : is_accepted first_of ≡ true → n ≡ 0 → why_values n b x ≡ Accepted
+    pub value_none : is_accepted first_of ≡ true → n ≡ 0 → why_values n b x ≡ accepted
     unfolding why_values
-    value_none h e = refuse-on Fit (not (fits_state b)) _ _ Accepted (λ z. rw (eq-eqb n 0 e)) h
+    value_none h e = refuse-on Fit (not (fits_state b)) _ _ accepted (λ z. rw (eq-eqb n 0 e)) h
 
     pub value_on : is_accepted first_of ≡ true → (n ≡ 0 → ⊥) → why_values n b x ≡ why_store b x
     unfolding why_values
@@ -244,10 +242,10 @@ module _ (b : Builder) (x : List ℕ) where
     unfolding why_rows
     judged a e =
         let f = accepted-both Fit (not (fits_state b)) _ a in
-        let g : is_accepted (rows_of Accepted) ≡ true = rw (ne_eqb n 0 e) at f.1 in
+        let g : is_accepted (rows_of accepted) ≡ true = rw (ne_eqb n 0 e) at f.1 in
         let l = accepted-both TooLong (ltb byte_limit (length x)) _ g in
         let k = accepted-both NotUtf8 (not (of_kind b.state.kind x)) _ l.1 in
-        let r = ltb-false (rows_room b) (b.state.rows + n) (accepted-both RowRoom (ltb (rows_room b) (b.state.rows + n)) Accepted k.1).0 in
+        let r = ltb-false (rows_room b) (b.state.rows + n) (accepted-both RowRoom (ltb (rows_room b) (b.state.rows + n)) accepted k.1).0 in
         (record { fit = not-false (fits_state b) f.0; small = ltb-false byte_limit (length x) l.0; room = omega (arith, e) }, r)
 
 -- a map longer than any that is asked for

@@ -2,10 +2,8 @@
 use Rattle.std.specs.Prelude.{Bool, true, false, not, ◌&&◌, List, ℕ, leb, length, replicate}
 use Rattle.basis.specs.Pick.{pick}
 use Rattle.bounds.specs.Bounds.{byte_limit}
-use Rattle.bounds.specs.Refusals.{refuse, if_accepted}
+use Rattle.bounds.specs.Refusals.{refuse, if_accepted, accepted, Why}
 use Rattle.bounds.specs.declared.Refusal.TheVariants.{Setting}
-use Rattle.bounds.specs.declared.Why.{Why}
-use Rattle.bounds.specs.declared.Why.TheVariants.{Accepted}
 use Rattle.growth.specs.Growing.{start_size}
 use Rattle.growth.specs.declared.Growth.{Growth}
 use Rattle.growth.specs.declared.Growth.TheVariants.{Fixed, Doubling}
@@ -31,7 +29,7 @@ lawful_merging On = true
 lawful_merging (UpTo n) = leb 1 n
 
 unfoldable pub why_start : Settings → Why
-why_start t = refuse Setting (not (lawful_sizes t.sizes && lawful_merging t.merging)) Accepted
+why_start t = refuse Setting (not (lawful_sizes t.sizes && lawful_merging t.merging)) accepted
 
 abbrev pub growth_of : Sizes → Growth
 growth_of Doubled = Doubling start_size

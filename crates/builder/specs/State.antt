@@ -3,8 +3,7 @@ use Rattle.std.specs.Prelude.{Bool, true, not, ◌&&◌, List, ℕ, zero, suc, �
 use Rattle.std.proofs.Math.Seq.{paste}
 use Rattle.basis.specs.Pick.{pick}
 use Rattle.bounds.specs.Bounds.{row_limit}
-use Rattle.bounds.specs.Refusals.{if_accepted}
-use Rattle.bounds.specs.declared.Why.{Why}
+use Rattle.bounds.specs.Refusals.{if_accepted, Why}
 use Rattle.null_bits.specs.Bits.{put_bit}
 use Rattle.growth.specs.Growing.{size_of, grown, fits_growth}
 use Rattle.growth.specs.declared.Growth.{Growth}

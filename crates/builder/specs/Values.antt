@@ -4,10 +4,8 @@ use Rattle.basis.specs.Pick.{pick}
 use Rattle.order.specs.Order.{same}
 use Rattle.hash.specs.Hash.{hash_of}
 use Rattle.bounds.specs.Bounds.{byte_limit}
-use Rattle.bounds.specs.Refusals.{refuse, is_accepted}
+use Rattle.bounds.specs.Refusals.{refuse, is_accepted, accepted, Why}
 use Rattle.bounds.specs.declared.Refusal.TheVariants.{Fit, TooLong, NotUtf8, RowRoom, BlockRoom, DataRoom}
-use Rattle.bounds.specs.declared.Why.{Why}
-use Rattle.bounds.specs.declared.Why.TheVariants.{Accepted}
 use Rattle.views.specs.View.{is_short, short_view, long_view, zero_view, view_at}
 use Rattle.merging.specs.declared.Found.{Found}
 use Rattle.merging.specs.declared.Found.TheVariants.{Full}
@@ -41,13 +39,13 @@ found b x = found_by b.state.merging b.places (hits b x) x
 -- n bytes more, in rooms for so many blocks and bytes; 6 only where a new block is needed
 unfoldable pub why_lay : State → ℕ → ℕ → ℕ → Why
 why_lay s blocks bytes n =
-    refuse BlockRoom (not (fits_open s n) && leb blocks (all_blocks s)) (refuse DataRoom (ltb bytes (used s + n)) Accepted)
+    refuse BlockRoom (not (fits_open s n) && leb blocks (all_blocks s)) (refuse DataRoom (ltb bytes (used s + n)) accepted)
 
 -- neither block nor bytes are needed for a short value, nor for a row that is found
 unfoldable pub why_store : Builder → List ℕ → Why
 why_store b x =
-    pick (is_short (length x)) Accepted
-    (pick (is_row (found b x)) Accepted (why_lay b.state (block_room b.lent) (data_room b.lent) (length x)))
+    pick (is_short (length x)) accepted
+    (pick (is_row (found b x)) accepted (why_lay b.state (block_room b.lent) (data_room b.lent) (length x)))
 
 -- 4, 10 and 5: x, of a kind, as `more` rows after `rows` in a room for so many
 unfoldable pub why_rows : Kind → List ℕ → ℕ → ℕ → ℕ → Why → Why
@@ -58,7 +56,7 @@ why_rows kind x rows more room w =
 unfoldable pub why_values : ℕ → Builder → List ℕ → Why
 why_values n b x =
     refuse Fit (not (fits_state b))
-    (pick (eqb n 0) Accepted (why_rows b.state.kind x b.state.rows n (rows_room b) (why_store b x)))
+    (pick (eqb n 0) accepted (why_rows b.state.kind x b.state.rows n (rows_room b) (why_store b x)))
 
 -- the row that comes next entered at the place that was found for it, if any
 abbrev pub enter : Found → Builder → Builder
@@ -79,7 +77,7 @@ unfoldable pub put_values : ℕ → List ℕ → Builder → Builder
 put_values n x b = pick (eqb n 0) b (add_rows (n - 1) (view_at (put_value x b).lent.views b.state.rows) true (put_value x b))
 
 unfoldable pub why_null : Builder → Why
-why_null b = refuse Fit (not (fits_state b)) (refuse RowRoom (leb (rows_room b) b.state.rows) Accepted)
+why_null b = refuse Fit (not (fits_state b)) (refuse RowRoom (leb (rows_room b) b.state.rows) accepted)
 
 -- a null row has the zero view
 unfoldable pub put_null : Builder → Builder

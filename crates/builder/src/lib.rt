@@ -1,14 +1,14 @@
 // The builder: its settings and state, whether the state fits what is lent, and the steps that its calls share.
 #![tactic(auto)]
 
-ghost use Rattle.std.specs.Prelude.{◌≡◌, true, false, ◌+◌, ◌*◌, ◌/◌, ◌^◌, ◌≤◌, ◌<◌, length, get_or};
+ghost use Rattle.std.specs.Prelude.{◌≡◌, ◌+◌, ◌*◌, ◌/◌, ◌^◌, ◌≤◌, ◌<◌, length, get_or};
 ghost use Rattle.std.proofs.Math.Seq.{paste};
-ghost use Rattle.basis.specs.Pick.{pick, if_lt};
+ghost use Rattle.basis.specs.Pick.{if_lt};
 ghost use Rattle.bounds.specs.Bounds.{row_limit, block_limit};
 ghost use Rattle.builder.specs.State.{held, places_room, all_blocks, fits_rooms, fits_state, rowed};
 ghost use Rattle.builder.specs.Rooms.{room_of_rows, room_of_blocks, room_of_bytes, open_starts, open_lens};
 
-use bounds::Why;
+use bounds::Refusal;
 use column::Kind;
 use growth::Growth;
 
@@ -36,7 +36,8 @@ pub struct Settings {
 }
 
 // `blocks` are the completed ones, `base` the bytes before the open block, `fill` the bytes of the open block, where 0 says that there is none,
-// `cap` the open block's capacity, `nulled` whether a null was added.
+// `cap` the open block's capacity, `nulled` whether a null was added. `fill` is no Option: C holds a state as these numbers, and `is_open`, under each
+// theorem over a state, asks for 0.
 #[derive(Clone, Copy)]
 pub struct State {
     pub kind: Kind,
@@ -50,14 +51,15 @@ pub struct State {
     pub nulled: bool,
 }
 
-// A call's verdict, and the state that it leaves: as it came where the call is refused.
+// A call's verdict, and the state that it leaves: as it came where the call is refused. A record and no Result: `Does`, and the theorems over it, say
+// what the state is on a refusal too.
 #[derive(Clone, Copy)]
 pub struct Answer {
-    pub why: Why,
+    pub why: Result<(), Refusal>,
     pub state: State,
 }
 
-// The bytes of a map that has a bit for every row there can be.
+// The bytes of a map that has a bit for every row there can be (`map-enough`).
 const MAP_MOST: usize = 4096;
 
 fn places_room(m: Merging, places: usize) -> usize
@@ -65,8 +67,7 @@ fn places_room(m: Merging, places: usize) -> usize
 {
     match m {
         Merging::Off => bounds::ROW_LIMIT,
-        Merging::On => places,
-        Merging::UpTo(_) => places,
+        Merging::On | Merging::UpTo(_) => places,
     }
 }
 
@@ -74,24 +75,23 @@ fn places_room(m: Merging, places: usize) -> usize
 pub fn rows_room(m: Merging, views: usize, nulls: usize, places: usize) -> usize
     ensures { result ≡ room_of_rows m views nulls places }
 {
-    let map = 8 * basis::least(nulls, MAP_MOST);
-    let rows = basis::least(
-        bounds::ROW_LIMIT,
-        basis::least(views / views::VIEW_SIZE, map),
-    );
-    basis::least(rows, places_room(m, places))
+    let map = 8 * nulls.min(MAP_MOST);
+    bounds::ROW_LIMIT
+        .min(views / views::VIEW_SIZE)
+        .min(map)
+        .min(places_room(m, places))
 }
 
 pub fn blocks_room(starts: usize, lens: usize) -> usize
     ensures { result ≡ room_of_blocks starts lens }
 {
-    basis::least(bounds::BLOCK_LIMIT, basis::least(starts, lens))
+    bounds::BLOCK_LIMIT.min(starts).min(lens)
 }
 
 pub fn bytes_room(bytes: usize) -> usize
     ensures { result ≡ room_of_bytes bytes }
 {
-    basis::least(bounds::BYTE_LIMIT, bytes)
+    bounds::BYTE_LIMIT.min(bytes)
 }
 
 // The blocks, the open one included.
@@ -99,12 +99,7 @@ pub fn all_blocks(s: State) -> usize
     requires { all_blocks s < 2 ^ 64 }
     ensures { result ≡ all_blocks s }
 {
-    let fill = s.fill;
-    let blocks = s.blocks;
-    if fill == 0 {
-        return blocks;
-    }
-    blocks + 1
+    if s.fill == 0 { s.blocks } else { s.blocks + 1 }
 }
 
 // Whether a state fits rooms for so many rows, blocks and bytes.
@@ -112,28 +107,16 @@ pub fn state_fits(s: State, rows: usize, blocks: usize, bytes: usize) -> bool
     requires { blocks ≤ block_limit }
     ensures { result ≡ fits_rooms s rows blocks bytes }
 {
-    let base = s.base;
-    let fill = s.fill;
-    let growth = s.growth;
-    if rows < s.rows {
-        return false;
-    }
-    if blocks < s.blocks {
-        return false;
-    }
-    if blocks < all_blocks(s) {
-        return false;
-    }
-    if bytes < base {
-        return false;
-    }
-    if bytes - base < fill {
-        return false;
-    }
-    growth.fits()
+    s.rows <= rows
+        && s.blocks <= blocks
+        && all_blocks(s) <= blocks
+        && s.base <= bytes
+        && s.fill <= bytes - s.base
+        && s.growth.fits()
 }
 
-// Whether a state fits the buffers that are lent.
+// Whether a state fits the buffers that are lent. The buffers are parameters of their own, here and in each call: which of them a call may write differs
+// from call to call, and its signature says it, as one struct of them would not.
 pub fn fits_lent(
     s: State,
     views: &[u8],
@@ -146,22 +129,12 @@ pub fn fits_lent(
     ensures { result ≡ fits_state (held s views.now bytes.now starts.now lens.now nulls.now
         places.now) }
 {
-    let merging = s.merging;
     state_fits(
         s,
-        rows_room(merging, views.len(), nulls.len(), places.len()),
+        rows_room(s.merging, views.len(), nulls.len(), places.len()),
         blocks_room(starts.len(), lens.len()),
         bytes_room(bytes.len()),
     )
-}
-
-fn either(valid: bool, nulled: bool) -> bool
-    ensures { result ≡ pick valid nulled true }
-{
-    if valid {
-        return nulled;
-    }
-    true
 }
 
 // The state with a row more.
@@ -169,10 +142,11 @@ pub fn row_more(s: State, valid: bool) -> State
     requires { s.rows < row_limit }
     ensures { result ≡ rowed valid s }
 {
-    let mut t = s;
-    t.rows = s.rows + 1;
-    t.nulled = either(valid, s.nulled);
-    t
+    State {
+        rows: s.rows + 1,
+        nulled: !valid || s.nulled,
+        ..s
+    }
 }
 
 // The record of the open block, if any, is written.
@@ -180,14 +154,10 @@ pub fn put_record(s: State, starts: &mut [usize], lens: &mut [usize])
     requires { (all_blocks s ≤ length starts.old) × (all_blocks s ≤ length lens.old) }
     ensures { (starts.new ≡ open_starts s starts.old) × (lens.new ≡ open_lens s lens.old) }
 {
-    let k = s.blocks;
-    let base = s.base;
-    let fill = s.fill;
-    if fill == 0 {
-        return;
+    if s.fill != 0 {
+        starts[s.blocks] = s.base;
+        lens[s.blocks] = s.fill;
     }
-    starts[k] = base;
-    lens[k] = fill;
 }
 
 // A value laid in the unused tail of the data.
@@ -203,12 +173,10 @@ pub fn at_or(numbers: &[usize], blocks: usize, last: usize, k: usize) -> usize
     requires { blocks ≤ length numbers.now }
     ensures { result ≡ if_lt k blocks (get_or numbers.now k 0) last }
 {
-    if k < blocks {
-        return numbers[k];
-    }
-    last
+    if k < blocks { numbers[k] } else { last }
 }
 
+// This and the two below make a value anew by its variant, where a copy of it would do but for speed: see `anew`.
 fn same_kind(k: Kind) -> Kind
     ensures { result ≡ k }
 {
@@ -237,20 +205,14 @@ fn same_merging(m: Merging) -> Merging
     }
 }
 
-// The same state, made of its numbers: the padding of the one that came in isn't carried from call to call.
+// The same state, made of its numbers: the padding of the one that came in isn't carried from call to call. A copy, `s`, is too slow.
 pub fn anew(s: State) -> State
     ensures { result ≡ s }
 {
-    let k = s.kind;
-    let g = s.growth;
-    let m = s.merging;
-    let kind = same_kind(k);
-    let growth = same_growth(g);
-    let merging = same_merging(m);
     State {
-        kind,
-        growth,
-        merging,
+        kind: same_kind(s.kind),
+        growth: same_growth(s.growth),
+        merging: same_merging(s.merging),
         rows: s.rows,
         blocks: s.blocks,
         base: s.base,

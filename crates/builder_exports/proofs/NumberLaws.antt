@@ -1,4 +1,5 @@
 -- What a call over a state says, as the exported call over its numbers says it. Assumes nothing.
+use Rattle.std.specs.Prelude.{Ok, Err}
 use mathlib.Core.Path.{◌≡◌, refl, ap, ◌∙◌}
 use mathlib.Core.Bool.{not}
 use mathlib.Core.List.{List, [], ◌∷◌}
@@ -6,10 +7,8 @@ use Prim.Native.Nat.{ℕ}
 use borrow.Author.Tests.{eq-eqb, ne_eqb}
 use lib.Dec.{eqb}
 use lib.ListN.{get_or}
-use Rattle.bounds.specs.Refusals.{number_of, why_number, if_accepted}
+use Rattle.bounds.specs.Refusals.{number_of, why_number, if_accepted, accepted, Why}
 use Rattle.bounds.specs.declared.Refusal.{Refusal}
-use Rattle.bounds.specs.declared.Why.{Why}
-use Rattle.bounds.specs.declared.Why.TheVariants.{Accepted, Refused}
 use Rattle.growth.specs.declared.Growth.{Growth}
 use Rattle.growth.specs.declared.Growth.TheVariants.{Fixed, Doubling}
 use Rattle.column.specs.declared.Kind.{Kind}
@@ -43,8 +42,8 @@ module _ (why : Builder → Why) (put : Builder → Builder) (l vs bs ss ns ms p
 
   -- a refused call's state is kept as numbers
   state-left : (w : Why) → if_accepted w (numbers_of (if_accepted w (put b) b).state) l ≡ if_accepted w (numbers_of (put b).state) l
-  state-left Accepted = refl
-  state-left (Refused r) = refl
+  state-left (Ok _) = refl
+  state-left (Err r) = refl
 
   pub exported : (n : ℕ) (l' : List ℕ) → n ≡ why_number a.why → l' ≡ if_accepted a.why (numbers_of a.state) l
       → Exported why put l vs bs ss ns ms ps n l' vs' bs' ss' ns' ms' ps'
@@ -70,8 +69,8 @@ module _ (why : Builder → Why) (put : Builder → Builder) (l vs bs ss ns ms p
   column-left c d' n k k' p q = q ∙ ap (λ (x : Answer). if_accepted x.why (column_numbers c) k) d.answers ∙ by (why (held s vs bs ss ns ms ps)) p
     where
       by : (w : Why) → c ≡ if_accepted w d' n → if_accepted w (column_numbers c) k ≡ if_accepted w (column_numbers d') k
-      by Accepted e = ap column_numbers e
-      by (Refused r) e = refl
+      by (Ok _) e = ap column_numbers e
+      by (Err r) e = refl
 
 -- start: its number, and the state's numbers
 pub start_left : (t : Settings) (a : Answer) (n : ℕ) (l l' : List ℕ) → a ≡ answer (why_start t) (start_state t) → n ≡ why_number a.why
@@ -81,8 +80,8 @@ start_left t a n l l' e p q =
     (p ∙ ap (λ (x : Answer). why_number x.why) e, q ∙ ap (λ (x : Answer). if_accepted x.why (numbers_of x.state) l) e ∙ by (why_start t))
   where
     by : (w : Why) → if_accepted w (numbers_of (if_accepted w (started t) (unstarted t))) l ≡ if_accepted w (numbers_of (started t)) l
-    by Accepted = refl
-    by (Refused r) = refl
+    by (Ok _) = refl
+    by (Err r) = refl
 
 -- ---- numbers
 
@@ -146,10 +145,10 @@ numbers-are s k g z m u f a b c d e h = λ i. a i ∷ b i ∷ c i ∷ d i ∷ e 
 -- ---- places
 
 module _ (s : State) (vs bs ss ns ms ps : List ℕ) (r : ℕ) (w : Why) (is : w ≡ why_get (held s vs bs ss ns ms ps) r) where
-  pub got-not : (e : Refusal) → w ≡ Refused e → (n : ℕ) → n ≡ number_of e → place n 0 0 0 ≡ place_got s vs bs ss ns ms ps r
+  pub got-not : (e : Refusal) → w ≡ Err e → (n : ℕ) → n ≡ number_of e → place n 0 0 0 ≡ place_got s vs bs ss ns ms ps r
   unfolding place_got
   got-not e q n p = rw (← is, q, p)
 
-  pub got-there : w ≡ Accepted → (p : Place) → p ≡ place_of (spot_row s (bare vs bs ss ns) r) → p ≡ place_got s vs bs ss ns ms ps r
+  pub got-there : w ≡ accepted → (p : Place) → p ≡ place_of (spot_row s (bare vs bs ss ns) r) → p ≡ place_got s vs bs ss ns ms ps r
   unfolding place_got
   got-there q p e = rw (← is, q) e

@@ -1,8 +1,6 @@
 -- A builder's state and its settings as the numbers that C and Rust see, and what an exported call says of them. Assumes nothing.
-use Rattle.std.specs.Prelude.{◌≡◌, Bool, true, false, not, List, [], ◌∷◌, ℕ, eqb, get_or}
-use Rattle.bounds.specs.Refusals.{number_of, why_number, if_accepted}
-use Rattle.bounds.specs.declared.Why.{Why}
-use Rattle.bounds.specs.declared.Why.TheVariants.{Accepted, Refused}
+use Rattle.std.specs.Prelude.{◌≡◌, Bool, true, false, not, List, [], ◌∷◌, ℕ, eqb, get_or, Ok, Err}
+use Rattle.bounds.specs.Refusals.{number_of, why_number, if_accepted, Why}
 use Rattle.growth.specs.declared.Growth.{Growth}
 use Rattle.growth.specs.declared.Growth.TheVariants.{Fixed, Doubling}
 use Rattle.column.specs.Room.{bare}
@@ -89,8 +87,8 @@ numbers_of s =
     ∷ s.rows ∷ s.blocks ∷ s.base ∷ s.fill ∷ s.cap ∷ flag s.nulled ∷ []
 
 abbrev pub place_when : Why → Place → Place
-place_when Accepted p = p
-place_when (Refused r) p = place (number_of r) 0 0 0
+place_when (Ok _) p = p
+place_when (Err r) p = place (number_of r) 0 0 0
 
 -- where the value of a row stands while it is built
 unfoldable pub place_got : State → List ℕ → List ℕ → List ℕ → List ℕ → List ℕ → List ℕ → ℕ → Place

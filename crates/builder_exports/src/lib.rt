@@ -15,42 +15,40 @@ ghost use Rattle.builder_exports.specs.Numbers.{growth_from, sizes_of, merging_o
 ghost use Rattle.builder_exports.specs.Numbers.{growth_number, growth_size, merging_number, merging_most, numbers_of};
 ghost use Rattle.builder_exports.specs.Numbers.{place_got, Exported};
 
-use bounds::Why;
 use builder::{Answer, Merging, Settings, Sizes, State};
+use column::Buffers;
 use growth::Growth;
 use numbers::{Counted, Place, Told};
 
 fn growth_of(g: usize, n: usize) -> Growth
     ensures { result ≡ growth_from g n }
 {
-    if g == 0 {
-        return Growth::Fixed(n);
+    match g {
+        0 => Growth::Fixed(n),
+        _ => Growth::Doubling(n),
     }
-    Growth::Doubling(n)
 }
 
 fn sizes_of(g: usize, n: usize) -> Sizes
     ensures { result ≡ sizes_of g n }
 {
-    if g == 0 {
-        return Sizes::Same(n);
+    match g {
+        0 => Sizes::Same(n),
+        _ => Sizes::Doubled,
     }
-    Sizes::Doubled
 }
 
 fn merging_of(m: usize, most: usize) -> Merging
     ensures { result ≡ merging_of m most }
 {
-    if m == 0 {
-        return Merging::Off;
+    match m {
+        0 => Merging::Off,
+        1 => Merging::On,
+        _ => Merging::UpTo(most),
     }
-    if m == 1 {
-        return Merging::On;
-    }
-    Merging::UpTo(most)
 }
 
-// A state by its eleven numbers.
+// A state by its eleven numbers, which are C's. No From, here or below: neither type is this crate's.
 pub fn state_of(l: &[usize; 11]) -> State
     ensures { result ≡ state_of l.now }
 {
@@ -90,8 +88,7 @@ fn growth_size(g: Growth) -> usize
     ensures { result ≡ growth_size g }
 {
     match g {
-        Growth::Fixed(n) => n,
-        Growth::Doubling(n) => n,
+        Growth::Fixed(n) | Growth::Doubling(n) => n,
     }
 }
 
@@ -109,8 +106,7 @@ fn merging_most(m: Merging) -> usize
     ensures { result ≡ merging_most m }
 {
     match m {
-        Merging::Off => 0,
-        Merging::On => 0,
+        Merging::Off | Merging::On => 0,
         Merging::UpTo(n) => n,
     }
 }
@@ -119,15 +115,12 @@ fn merging_most(m: Merging) -> usize
 fn numbers_of(s: State) -> [usize; 11]
     ensures { result ≡ numbers_of s }
 {
-    let kind = s.kind;
-    let growth = s.growth;
-    let merging = s.merging;
     [
-        numbers::kind_number(kind),
-        growth_number(growth),
-        growth_size(growth),
-        merging_number(merging),
-        merging_most(merging),
+        numbers::kind_number(s.kind),
+        growth_number(s.growth),
+        growth_size(s.growth),
+        merging_number(s.merging),
+        merging_most(s.merging),
         s.rows,
         s.blocks,
         s.base,
@@ -141,10 +134,8 @@ fn numbers_of(s: State) -> [usize; 11]
 fn leave(a: Answer, state: &mut [usize; 11])
     ensures { state.new ≡ if_accepted a.why (numbers_of a.state) state.old }
 {
-    let w = a.why;
-    let s = a.state;
-    if bounds::is_accepted(w) {
-        *state = numbers_of(s);
+    if a.why.is_ok() {
+        *state = numbers_of(a.state);
     }
 }
 
@@ -152,9 +143,8 @@ fn leave(a: Answer, state: &mut [usize; 11])
 pub fn tell(a: Answer, state: &mut [usize; 11]) -> u64
     ensures { (result ≡ why_number a.why) × (state.new ≡ if_accepted a.why (numbers_of a.state) state.old) }
 {
-    let w = a.why;
     leave(a, state);
-    bounds::why_number(w) as u64
+    bounds::why_number(a.why) as u64
 }
 
 // A builder started: its state's numbers, and the merge table emptied where it is used.
@@ -249,12 +239,9 @@ pub fn tambuyeel_append_block(
 {
     let s = state_of(state);
     let a = appending::append_block(s, views, bytes, starts, lens, nulls, places, x);
-    let block = a.block;
-    let done = a.answer;
-    let refused = tell(done, state);
     Counted {
-        refused,
-        number: block,
+        refused: tell(a.answer, state),
+        number: a.block,
     }
 }
 
@@ -317,16 +304,17 @@ pub fn tambuyeel_append_column<'a>(
         lens,
         nulls,
         places,
-        srcviews,
-        srcbytes,
-        srcstarts,
-        srclens,
-        srcnulls,
+        Buffers {
+            views: srcviews,
+            bytes: srcbytes,
+            starts: srcstarts,
+            lens: srclens,
+            nulls: srcnulls,
+        },
         numbers::column_of(column),
     );
-    let w = a.why;
     leave(a, state);
-    numbers::told_why(w)
+    numbers::told_why(a.why)
 }
 
 // Which bytes of which buffer a row's value is while it is built.
@@ -344,17 +332,14 @@ pub fn tambuyeel_get_value(
         nulls.now places.now row }
 {
     let s = state_of(state);
-    let why = finishing::why_get(s, views, bytes, starts, lens, nulls, places, row);
-    match why {
-        Why::Refused(r) => return Place {
-            refused: bounds::number(r) as u64,
+    match finishing::why_get(s, views, bytes, starts, lens, nulls, places, row) {
+        Ok(()) => numbers::place_of(finishing::spot_row(s, views, bytes, starts, lens, row)),
+        Err(r) => Place {
+            refused: r.number() as u64,
             buffer: 0,
             offset: 0,
             len: 0,
         },
-        Why::Accepted => return numbers::place_of(finishing::spot_row(
-            s, views, bytes, starts, lens, row,
-        )),
     }
 }
 
@@ -379,11 +364,8 @@ pub fn tambuyeel_finish(
 {
     let s = state_of(state);
     let a = finishing::finish(s, views, bytes, starts, lens, nulls, places);
-    let done = a.answer;
-    let w = done.why;
-    let c = a.column;
-    numbers::hand(w, c, column);
-    tell(done, state)
+    numbers::hand(a.answer.why, a.column, column);
+    tell(a.answer, state)
 }
 
 // The column so far, the open block's record written; the builder goes on in the same buffers.
@@ -407,9 +389,6 @@ pub fn tambuyeel_finish_by_copy(
 {
     let s = state_of(state);
     let a = finishing::finish_copy(s, views, bytes, starts, lens, nulls, places);
-    let done = a.answer;
-    let w = done.why;
-    let c = a.column;
-    numbers::hand(w, c, column);
-    tell(done, state)
+    numbers::hand(a.answer.why, a.column, column);
+    tell(a.answer, state)
 }

@@ -12,17 +12,17 @@ use growth::Growth;
 
 fn merging_of(merge: usize) -> Merging {
     if merge == 0 {
-        return Merging::Off;
+        Merging::Off
+    } else {
+        Merging::On
     }
-    Merging::On
 }
 
 fn fresh(merge: usize) -> State {
-    let merging = merging_of(merge);
     State {
         kind: Kind::Binary,
         growth: Growth::Doubling(growth::START_SIZE),
-        merging,
+        merging: merging_of(merge),
         rows: 0,
         blocks: 0,
         base: 0,
@@ -52,8 +52,7 @@ fn turn(
         places.new) ≡ true) × (result.merging ≡ s.merging) }
 {
     let t = builder::anew(s);
-    let r = values::add_part(t, views, bytes, starts, lens, nulls, places, all, a, e);
-    r.state
+    values::add_part(t, views, bytes, starts, lens, nulls, places, all, a, e).state
 }
 
 // Adds the values of `all` that end at `ends`, each from the end of the one before. Answers the rows added.
@@ -70,8 +69,7 @@ pub extern "C" fn tambuyeel_build(
     merge: usize,
 ) -> usize {
     let mut s = fresh(merge);
-    let merging = s.merging;
-    let room = builder::rows_room(merging, views.len(), nulls.len(), places.len());
+    let room = builder::rows_room(s.merging, views.len(), nulls.len(), places.len());
     if !builder::state_fits(
         s,
         room,
@@ -81,24 +79,12 @@ pub extern "C" fn tambuyeel_build(
         return 0;
     }
     let mut a = 0;
-    let mut k = 0;
-    while k < ends.len() {
-        let e = ends[k];
-        if e < a {
-            return s.rows;
-        }
-        if all.len() < e {
-            return s.rows;
-        }
-        if bounds::BYTE_LIMIT < e - a {
-            return s.rows;
-        }
-        if room <= s.rows {
-            return s.rows;
+    for &e in ends {
+        if e < a || all.len() < e || bounds::BYTE_LIMIT < e - a || room <= s.rows {
+            break;
         }
         s = turn(s, views, bytes, starts, lens, nulls, places, all, a, e);
         a = e;
-        k += 1;
     }
     s.rows
 }

@@ -10,8 +10,8 @@ use borrow.Author.Tests.{leb-true, leb-false, le-leb, lt-leb, eqb-true, eqb-fals
 use lib.Dec.{T, leb, eqb}
 use types.Run.{OneOf, hit}
 use mir.Val.{has_key}
-use lib.ListN.{length, get_or, take, drop, length-take, length-drop, drop_of_length-le}
-use lib.Seq.{drop-cons, drop-drop, length-take-le, get_or-take}
+use lib.ListN.{length, get_or, take, drop, length-take, drop_of_length-le}
+use lib.Seq.{drop-cons, length-take-le, get_or-take}
 use Rattle.basis.specs.Pick.{pick}
 use Rattle.order.specs.Order.{same}
 use Rattle.order.proofs.OrderLaws.{same-is, same-no}
@@ -28,12 +28,6 @@ both false t h = absurd (true≢false (sym h))
 pub and_no : (t : Bool) → (t && false) ≡ false
 and_no true = refl
 and_no false = refl
-
-pub below : (lo hi b : ℕ) → b < lo → false ≡ (leb lo b && leb b hi)
-below lo hi b h = rw (lt-leb lo b h)
-
-pub above : (lo hi b : ℕ) (t : Bool) → lo ≤ b → t ≡ leb b hi → t ≡ (leb lo b && leb b hi)
-above lo hi b t h e = rw (le-leb lo b h) e
 
 -- ---- letters, digits and hyphens
 
@@ -76,24 +70,6 @@ unfolding is_code_byte is_letter is_digit
 byte_high b h =
     rw (ne_eqb b 45 (λ e. omega arith), lt-leb b 90 (omega arith), lt-leb b 57 (omega arith), and_no (leb 65 b)) (sym (and_no (leb 48 b)))
 
-module _ (after : Bool) (b : ℕ) where
-  pub stands-not : is_code_byte b ≡ false → false ≡ may_stand after b
-  unfolding may_stand
-  stands-not h = rw h
-
-  module _ (h : is_code_byte b ≡ true) where
-    pub stands-hyphen : b ≡ 45 → not after ≡ may_stand after b
-    unfolding may_stand
-    stands-hyphen e = rw (h, eq-eqb b 45 e) (go after)
-      where
-        go : (t : Bool) → not t ≡ not (t && true)
-        go true = refl
-        go false = refl
-
-    pub stands_word : (b ≡ 45 → ⊥) → true ≡ may_stand after b
-    unfolding may_stand
-    stands_word e = rw (h, ne_eqb b 45 e, and_no after)
-
 module _ (s : List ℕ) (i : ℕ) where
   parted-step : (after : Bool) → i < length s → parted after (drop i s) ≡ (may_stand after (get_or s i 0) && parted (is_hyphen (get_or s i 0)) (drop (i + 1) s))
   unfolding parted
@@ -132,15 +108,13 @@ unfolding past_hyphen
 past-none [] h = refl
 past-none (b ∷ x) h = absurd (omega arith)
 
-pub past_one : (x : List ℕ) → (length x ≡ 0 → ⊥) → get_or x 0 0 ≡ 45 → drop 1 x ≡ past_hyphen x
+pub past_one : (x r : List ℕ) (b : ℕ) → x ≡ b ∷ r → b ≡ 45 → r ≡ past_hyphen x
 unfolding past_hyphen
-past_one [] h e = absurd (h refl)
-past_one (b ∷ x) h e = rw (eq-eqb b 45 e)
+past_one x r b e h = rw (e, eq-eqb b 45 h)
 
-pub past-other : (x : List ℕ) → (length x ≡ 0 → ⊥) → (get_or x 0 0 ≡ 45 → ⊥) → x ≡ past_hyphen x
+pub past-other : (x r : List ℕ) (b : ℕ) → x ≡ b ∷ r → (b ≡ 45 → ⊥) → x ≡ past_hyphen x
 unfolding past_hyphen
-past-other [] h e = absurd (h refl)
-past-other (b ∷ x) h e = rw (ne_eqb b 45 e)
+past-other x r b e h = rw (e, ne_eqb b 45 h)
 
 -- ---- a day
 
@@ -372,74 +346,53 @@ unfolding is_year
 year-none [] h = refl
 year-none (b ∷ x) h = absurd (omega arith)
 
-pub year-other : (x : List ℕ) → (length x ≡ 0 → ⊥) → (get_or x 0 0 ≡ 45 → ⊥) → false ≡ is_year x
-unfolding is_year
-year-other [] h e = absurd (h refl)
-year-other (b ∷ x) h e = rw (ne_eqb b 45 e)
+module _ (x r : List ℕ) (b : ℕ) (e : x ≡ b ∷ r) where
+  pub year-other : (b ≡ 45 → ⊥) → false ≡ is_year x
+  unfolding is_year
+  year-other h = rw (e, ne_eqb b 45 h)
 
-year-is : (x : List ℕ) → (length x ≡ 0 → ⊥) → get_or x 0 0 ≡ 45 → is_year x ≡ (is_digits 2 2 (drop 1 x) || is_digits 4 4 (drop 1 x))
-unfolding is_year
-year-is [] h e = absurd (h refl)
-year-is (b ∷ x) h e = rw (eq-eqb b 45 e)
+  module _ (h : b ≡ 45) (d : ℕ) (l : d ≡ leading r) where
+    year-is : is_year x ≡ (is_digits 2 2 r || is_digits 4 4 r)
+    unfolding is_year
+    year-is = rw (e, eq-eqb b 45 h)
 
-module _ (x : List ℕ) (h : length x ≡ 0 → ⊥) (e : get_or x 0 0 ≡ 45) (d : ℕ) (l : d ≡ leading (drop 1 x)) where
-  rest : length (drop 1 x) ≡ length x - 1
-  rest = length-drop 1 x
+    pub year-not : (d ≡ length r → ⊥) → false ≡ is_year x
+    year-not n = let g : leading r ≡ length r → ⊥ = λ q. n (l ∙ q) in rw (year-is, digits-not 2 2 r g, digits-not 4 4 r g)
 
-  pub year-not : (d + 1 ≡ length x → ⊥) → false ≡ is_year x
-  year-not n =
-      let g : leading (drop 1 x) ≡ length (drop 1 x) → ⊥ = λ q. n (omega (arith, rest)) in
-      rw (year-is x h e, digits-not 2 2 (drop 1 x) g, digits-not 4 4 (drop 1 x) g)
+    pub year-two : d ≡ length r → d ≡ 2 → true ≡ is_year x
+    year-two n t = rw (year-is, digits-yes 2 2 r (omega arith) (omega arith) (omega arith))
 
-  pub year-two : d + 1 ≡ length x → d ≡ 2 → true ≡ is_year x
-  year-two n t = rw (year-is x h e, digits-yes 2 2 (drop 1 x) (omega (arith, rest)) (omega (arith, rest)) (omega (arith, rest)))
-
-  pub year-four : d + 1 ≡ length x → (d ≡ 2 → ⊥) → eqb d 4 ≡ is_year x
-  year-four n t =
-      let g : leading (drop 1 x) ≡ length (drop 1 x) = omega (arith, rest) in
-      let r : length (drop 1 x) ≡ d = omega (arith, rest) in
-      rw (year-is x h e, digits_of 2 (drop 1 x) g, digits_of 4 (drop 1 x) g, r, ne_eqb d 2 t)
+    pub year-four : d ≡ length r → (d ≡ 2 → ⊥) → eqb d 4 ≡ is_year x
+    year-four n t = let g : leading r ≡ length r = sym l ∙ n in rw (year-is, digits_of 2 r g, digits_of 4 r g, ← n, ne_eqb d 2 t)
 
 -- ---- groups
 
-module _ (s : List ℕ) (at : ℕ) where
-  pub follow-end : (n : ℕ) → length s ≤ at → groups_follow n (drop at s) ≡ true
+pub follow-end : (n : ℕ) (x : List ℕ) → length x ≡ 0 → true ≡ groups_follow n x
+unfolding groups_follow
+follow-end zero [] h = refl
+follow-end (suc n) [] h = refl
+follow-end n (b ∷ x) h = absurd (omega arith)
+
+pub follow-last : (x : List ℕ) → eqb (length x) 0 ≡ groups_follow 0 x
+unfolding groups_follow
+follow-last [] = refl
+follow-last (b ∷ x) = ne_eqb (suc (length x)) 0 (λ e. omega arith)
+
+module _ (x r : List ℕ) (b : ℕ) (e : x ≡ b ∷ r) where
+  pub follow-other : (n : ℕ) → (b ≡ 45 → ⊥) → false ≡ groups_follow n x
   unfolding groups_follow
-  follow-end zero h = rw (drop_of_length-le s h)
-  follow-end (suc n) h = rw (drop_of_length-le s h)
+  follow-other zero h = rw e
+  follow-other (suc n) h = rw (e, ne_eqb b 45 h)
 
-  module _ (h : at < length s) where
-    pub follow-none : (n : ℕ) → n ≡ 0 → groups_follow n (drop at s) ≡ false
+  module _ (d : ℕ) (l : d ≡ leading r) where
+    pub follow-no : (n : ℕ) → is_group d ≡ false → false ≡ groups_follow n x
     unfolding groups_follow
-    follow-none zero e = rw (drop-cons s at 0 h)
-    follow-none (suc n) e = absurd (omega arith)
+    follow-no zero g = rw e
+    follow-no (suc n) g = rw (e, ← l, g) (sym (and_no (eqb b 45)))
 
-    pub follow-other : (n : ℕ) → (get_or s at 0 ≡ 45 → ⊥) → groups_follow n (drop at s) ≡ false
+    pub follow-on : (n : ℕ) → b ≡ 45 → is_group d ≡ true → groups_follow (suc n) x ≡ groups_follow n (drop d r)
     unfolding groups_follow
-    follow-other zero e = rw (drop-cons s at 0 h)
-    follow-other (suc n) e = rw (drop-cons s at 0 h, ne_eqb (get_or s at 0) 45 e)
-
-    follow-group : (n d : ℕ) → (n ≡ 0 → ⊥) → get_or s at 0 ≡ 45 → d ≡ leading (drop (at + 1) s)
-        → groups_follow n (drop at s) ≡ (is_group d && groups_follow (n - 1) (drop (at + (1 + d)) s))
-    unfolding groups_follow
-    follow-group zero d z e l = absurd (z refl)
-    follow-group (suc n) d z e l =
-        let f : suc at ≡ at + 1 = omega arith in
-        let g : suc n - 1 ≡ n = omega arith in
-        let k : suc at + d ≡ at + (1 + d) = omega arith in
-        let m : leading (drop (suc at) s) ≡ d = ap (λ (j : ℕ). leading (drop j s)) f ∙ sym l in
-        rw (drop-cons s at 0 h, eq-eqb (get_or s at 0) 45 e, m, g, drop-drop d (suc at) s, k)
-
-module _ (s : List ℕ) (at : ℕ) (h : at < length s) (n d : ℕ) (z : n ≡ 0 → ⊥) (e : get_or s at 0 ≡ 45) (l : d ≡ leading (drop (at + 1) s)) where
-  pub follow-no : is_group d ≡ false → groups_follow n (drop at s) ≡ false
-  follow-no g = follow-group s at h n d z e l ∙ ap (λ (t : Bool). t && groups_follow (n - 1) (drop (at + (1 + d)) s)) g
-
-  pub follow-on : is_group d ≡ true → groups_follow n (drop at s) ≡ groups_follow (n - 1) (drop (at + (1 + d)) s)
-  follow-on g = follow-group s at h n d z e l ∙ ap (λ (t : Bool). t && groups_follow (n - 1) (drop (at + (1 + d)) s)) g
-
--- the digits of what follows byte `at` end within the text
-pub follow-room : (s r : List ℕ) (at d : ℕ) → at < length s → r ≡ drop (at + 1) s → d ≤ length r → at + (1 + d) ≤ length s
-follow-room s r at d h e l = let g : length r ≡ length s - (at + 1) = ap length e ∙ length-drop (at + 1) s in omega arith
+    follow-on n h g = rw (e, eq-eqb b 45 h, ← l, g)
 
 -- ---- the three kinds of dates
 

@@ -1,8 +1,8 @@
 // Element codes: whether a value conforms to the code profile, and whether a spreadsheet would take it for a date.
 #![tactic(auto)]
 
-ghost use Rattle.std.specs.Prelude.{◌≡◌, true, [], ◌∷◌, ◌+◌, ◌≤◌, length, drop, take};
-ghost use Rattle.codes.specs.Grammar.{is_digit, number_after};
+ghost use Rattle.std.specs.Prelude.{◌≡◌, true, [], ◌∷◌, ◌+◌, ◌≤◌, length, take};
+ghost use Rattle.codes.specs.Grammar.{number_after};
 ghost use Rattle.codes.specs.Recogniser as spec;
 ghost use Rattle.codes.specs.Recogniser.{is_code_byte, may_stand, parted, is_day, is_month, is_year, is_month_year, is_day_month, is_month_day, is_group, groups_follow, is_groups};
 ghost use Rattle.codes.specs.Windows.{window_ok};
@@ -18,7 +18,7 @@ pub enum Mark {
     Date,
 }
 
-// The number of a mark.
+// The number of a mark, by which C is told it (mark_exports).
 pub fn number_of(m: Mark) -> usize
     ensures { result ≡ mark_number m }
 {
@@ -30,41 +30,23 @@ pub fn number_of(m: Mark) -> usize
     }
 }
 
-fn is_digit(b: u8) -> bool
-    ensures { result ≡ is_digit b }
-{
-    if b < 48 {
-        return false;
-    }
-    b <= 57
-}
-
 // The bytes that a code may have, from the hyphen to Z, a bit each: no branch hangs on which of them it is.
 const CODE_BYTES: usize = 0x3ffffff01ff9;
 
 fn is_code_byte(b: u8) -> bool
     ensures { result ≡ is_code_byte b }
 {
-    if b < 45 {
-        return false;
+    match b {
+        45..=90 => (CODE_BYTES >> (b as usize - 45)) % 2 == 1,
+        _ => false,
     }
-    if 90 < b {
-        return false;
-    }
-    (CODE_BYTES >> (b as usize - 45)) % 2 == 1
 }
 
 // After a hyphen and at the start only a letter or a digit, else a hyphen too.
 fn may_stand(after: bool, b: u8) -> bool
     ensures { result ≡ may_stand after b }
 {
-    if !is_code_byte(b) {
-        return false;
-    }
-    if b == 45 {
-        return !after;
-    }
-    true
+    is_code_byte(b) && !(after && b == 45)
 }
 
 // Letters, digits and single hyphens, none of them first or last.
@@ -72,14 +54,11 @@ fn is_parted(s: &[u8]) -> bool
     ensures { result ≡ parted true s.now }
 {
     let mut after = true;
-    let mut i = 0;
-    while i < s.len() {
-        let b = s[i];
-        if !may_stand(after, b) {
+    for b in s {
+        if !may_stand(after, *b) {
             return false;
         }
-        after = b == 45;
-        i += 1;
+        after = *b == 45;
     }
     !after
 }
@@ -126,68 +105,39 @@ fn is_parted_long(s: &[u8]) -> bool
     if n <= 17 {
         return window(s, n - 9);
     }
-    if !window(s, 8) {
-        return false;
-    }
-    window(s, n - 9)
+    window(s, 8) && window(s, n - 9)
 }
 
 // Does a value conform to the profile?
 pub fn conforms(s: &[u8]) -> bool
     ensures { result ≡ spec.conforms s.now }
 {
-    if s.len() < 4 {
-        return false;
+    match s.len() {
+        4..=8 => is_parted(s),
+        9..=24 => is_parted_long(s),
+        _ => false,
     }
-    if 24 < s.len() {
-        return false;
-    }
-    if s.len() < 9 {
-        return is_parted(s);
-    }
-    is_parted_long(s)
-}
-
-// The first n bytes, and the others.
-fn front<'a>(s: &'a [u8], n: usize) -> &'a [u8]
-    requires { n ≤ length s.now }
-    ensures { result.now ≡ take n s.now }
-{
-    &s[0..n]
-}
-
-fn back<'a>(s: &'a [u8], n: usize) -> &'a [u8]
-    requires { n ≤ length s.now }
-    ensures { result.now ≡ drop n s.now }
-{
-    let e = s.len();
-    &s[n..e]
 }
 
 // How many digits a text begins with.
 fn leading(s: &[u8]) -> usize
     ensures { (result ≡ spec.leading s.now) × (result ≤ length s.now) }
 {
-    let mut i = 0;
-    while i < s.len() {
-        if !is_digit(s[i]) {
-            break;
+    for (i, b) in s.iter().enumerate() {
+        if !b.is_ascii_digit() {
+            return i;
         }
-        i += 1;
     }
-    i
+    s.len()
 }
 
 fn past_hyphen<'a>(s: &'a [u8]) -> &'a [u8]
     ensures { result.now ≡ spec.past_hyphen s.now }
 {
-    if s.len() == 0 {
-        return back(s, 0);
+    match s.split_first() {
+        Some((b, rest)) if *b == 45 => rest,
+        _ => s,
     }
-    if s[0] == 45 {
-        return back(s, 1);
-    }
-    back(s, 0)
 }
 
 // The number that two digits say.
@@ -203,17 +153,14 @@ fn begins_with_day(s: &[u8], d: usize) -> bool
     requires { (d ≡ spec.leading s.now) × (d ≤ length s.now) }
     ensures { result ≡ is_day (take d s.now) }
 {
-    if d == 1 {
-        return s[0] != 48;
+    match d {
+        1 => s[0] != 48,
+        2 => {
+            let n = two_digits(s[0], s[1]);
+            n != 0 && n <= 31
+        }
+        _ => false,
     }
-    if d != 2 {
-        return false;
-    }
-    let n = two_digits(s[0], s[1]);
-    if n == 0 {
-        return false;
-    }
-    n <= 31
 }
 
 // A day, and nothing else.
@@ -221,90 +168,69 @@ fn is_day(s: &[u8]) -> bool
     ensures { result ≡ is_day s.now }
 {
     let d = leading(s);
-    if d != s.len() {
-        return false;
-    }
-    begins_with_day(s, d)
+    d == s.len() && begins_with_day(s, d)
 }
 
 fn is_month_word(w: usize) -> bool
     ensures { result ≡ is_month_word w }
 {
-    match w {
+    matches!(
+        w,
         0x4a414e
-        | 0x464542
-        | 0x4d4152
-        | 0x415052
-        | 0x4d4159
-        | 0x4a554e
-        | 0x4a554c
-        | 0x415547
-        | 0x534550
-        | 0x4f4354
-        | 0x4e4f56
-        | 0x444543 => true,
-        _ => false,
-    }
-}
-
-fn is_month_of(a: u8, b: u8, c: u8) -> bool
-    ensures { result ≡ is_month (a ∷ b ∷ c ∷ []) }
-{
-    is_month_word(a as usize * 65536 + b as usize * 256 + c as usize)
+            | 0x464542
+            | 0x4d4152
+            | 0x415052
+            | 0x4d4159
+            | 0x4a554e
+            | 0x4a554c
+            | 0x415547
+            | 0x534550
+            | 0x4f4354
+            | 0x4e4f56
+            | 0x444543
+    )
 }
 
 // A month: JAN to DEC.
 fn is_month(s: &[u8]) -> bool
     ensures { result ≡ is_month s.now }
 {
-    if s.len() != 3 {
-        return false;
+    match s {
+        [a, b, c] => is_month_word(*a as usize * 65536 + *b as usize * 256 + *c as usize),
+        _ => false,
     }
-    is_month_of(s[0], s[1], s[2])
 }
 
 // After a month: nothing, or a hyphen and two or four digits.
 fn is_year(s: &[u8]) -> bool
     ensures { result ≡ is_year s.now }
 {
-    if s.len() == 0 {
-        return true;
+    match s.split_first() {
+        None => true,
+        Some((b, rest)) if *b == 45 => {
+            let d = leading(rest);
+            d == rest.len() && (d == 2 || d == 4)
+        }
+        Some(_) => false,
     }
-    if s[0] != 45 {
-        return false;
-    }
-    let d = leading(back(s, 1));
-    if d + 1 != s.len() {
-        return false;
-    }
-    if d == 2 {
-        return true;
-    }
-    d == 4
 }
 
 fn is_month_year(s: &[u8]) -> bool
     ensures { result ≡ is_month_year s.now }
 {
-    if s.len() < 3 {
-        return false;
+    match s.split_at_checked(3) {
+        Some((month, rest)) => is_month(month) && is_year(rest),
+        None => false,
     }
-    if !is_month(front(s, 3)) {
-        return false;
-    }
-    is_year(back(s, 3))
 }
 
 fn is_month_day(s: &[u8]) -> bool
     ensures { result ≡ is_month_day s.now }
 {
-    if s.len() < 3 {
-        return false;
+    match s.split_at_checked(3) {
+        Some((month, rest)) => is_month(month) && is_day(past_hyphen(rest)),
+        None => false,
     }
-    if !is_month(front(s, 3)) {
-        return false;
-    }
-    is_day(past_hyphen(back(s, 3)))
 }
 
 // A text that begins with d digits.
@@ -312,42 +238,31 @@ fn is_day_month(s: &[u8], d: usize) -> bool
     requires { (d ≡ spec.leading s.now) × (d ≤ length s.now) }
     ensures { result ≡ is_day_month s.now }
 {
-    if !begins_with_day(s, d) {
-        return false;
-    }
-    is_month_year(past_hyphen(back(s, d)))
+    begins_with_day(s, d) && is_month_year(past_hyphen(&s[d..]))
 }
 
 fn is_group(d: usize) -> bool
     ensures { result ≡ is_group d }
 {
-    if d < 1 {
-        return false;
-    }
-    d <= 4
+    1 <= d && d <= 4
 }
 
 // A hyphen and a group, twice at most, and the end.
 fn groups_follow(s: &[u8]) -> bool
     ensures { result ≡ groups_follow 2 s.now }
 {
-    let mut left: usize = 2;
-    let mut at = 0;
-    while at < s.len() {
-        if left == 0 {
+    let mut rest = s;
+    for _ in 0..2usize {
+        let Some((b, digits)) = rest.split_first() else {
+            return true;
+        };
+        let d = leading(digits);
+        if *b != 45 || !is_group(d) {
             return false;
         }
-        if s[at] != 45 {
-            return false;
-        }
-        let d = leading(back(s, at + 1));
-        if !is_group(d) {
-            return false;
-        }
-        left -= 1;
-        at += 1 + d;
+        rest = &digits[d..];
     }
-    true
+    rest.is_empty()
 }
 
 // A text that begins with d digits.
@@ -358,24 +273,17 @@ fn is_groups(s: &[u8], d: usize) -> bool
     if !is_group(d) {
         return false;
     }
-    if s.len() <= d {
-        return false;
-    }
-    groups_follow(back(s, d))
+    d < s.len() && groups_follow(&s[d..])
 }
 
 // Would a spreadsheet take a text for a date?
 pub fn is_date(s: &[u8]) -> bool
     ensures { result ≡ spec.is_date s.now }
 {
-    let d = leading(s);
-    if d == 0 {
-        return is_month_day(s);
+    match leading(s) {
+        0 => is_month_day(s),
+        d => is_day_month(s, d) || is_groups(s, d),
     }
-    if is_day_month(s, d) {
-        return true;
-    }
-    is_groups(s, d)
 }
 
 // The mark of a value.
@@ -385,8 +293,5 @@ pub fn mark_of(s: &[u8]) -> Mark
     if !conforms(s) {
         return Mark::Other;
     }
-    if is_date(s) {
-        return Mark::Date;
-    }
-    Mark::Code
+    if is_date(s) { Mark::Date } else { Mark::Code }
 }

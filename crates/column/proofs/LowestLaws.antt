@@ -1,15 +1,13 @@
 -- The lowest row that fails a test. Assumes nothing.
-use Rattle.std.specs.Prelude.{◌≡◌, Bool, true, false, not}
+use Rattle.std.specs.Prelude.{◌≡◌, Bool, true, false, not, Err}
 use Rattle.std.proofs.Math.Path.{refl, subst}
 use Rattle.std.proofs.Math.Logic.{by_cases}
 use Prim.Native.Nat.{ℕ, zero, suc, ◌<◌}
 use Rattle.std.proofs.Common.{not-suc-le-zero, arith}
 use Rattle.std.proofs.Math.Decide.{ℕ_discrete}
 use Rattle.std.proofs.lemmas.Bool.{not-false}
-use Rattle.bounds.specs.Refusals.{refuse, is_accepted, accepted-both}
+use Rattle.bounds.specs.Refusals.{refuse, is_accepted, accepted-both, Why}
 use Rattle.bounds.specs.declared.Refusal.TheVariants.{BadView}
-use Rattle.bounds.specs.declared.Why.{Why}
-use Rattle.bounds.specs.declared.Why.TheVariants.{Refused}
 use Rattle.column.specs.Truth.{lowest}
 
 module _ (good : ℕ → Bool) where
@@ -20,12 +18,12 @@ module _ (good : ℕ → Bool) where
   lowest-none (suc n) w h = rw (h n (omega arith)) (lowest-none n w (λ j l. h j (omega arith)))
 
   -- row k is the lowest that isn't
-  pub lowest-bad : (k n : ℕ) (w : Why) → k < n → ((j : ℕ) → j < k → good j ≡ true) → good k ≡ false → Refused (BadView k) ≡ lowest good n w
+  pub lowest-bad : (k n : ℕ) (w : Why) → k < n → ((j : ℕ) → j < k → good j ≡ true) → good k ≡ false → Err (BadView k) ≡ lowest good n w
   unfolding lowest refuse
   lowest-bad k zero w l h b = absurd (not-suc-le-zero l)
   lowest-bad k (suc n) w l h b =
       by_cases (ℕ_discrete k n)
-      (λ e. subst (λ (m : ℕ). Refused (BadView k) ≡ lowest good m (refuse (BadView m) (not (good m)) w)) e (rw b (lowest-none k (Refused (BadView k)) h)))
+      (λ e. subst (λ (m : ℕ). Err (BadView k) ≡ lowest good m (refuse (BadView m) (not (good m)) w)) e (rw b (lowest-none k (Err (BadView k)) h)))
       (λ d. lowest-bad k n (refuse (BadView n) (not (good n)) w) (omega arith) h b)
 
   -- an accepted call found none

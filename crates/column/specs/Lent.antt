@@ -1,8 +1,8 @@
 -- What a caller lends for a column, the room that it gives, and when a column's numbers fit. Assumes nothing.
 use Rattle.std.specs.Prelude.{Bool, true, false, ◌&&◌, List, [], ◌∷◌, ℕ, zero, suc, ◌+◌, ◌*◌, ◌/◌, min, leb, length, get_or}
-use Rattle.std.specs.Borrow.{Bor}
 use Rattle.bounds.specs.Bounds.{row_limit, block_limit, byte_limit}
 use Rattle.column.specs.declared.Block.{Block}
+use Rattle.column.specs.declared.Buffers.{Buffers}
 use Rattle.column.specs.declared.Column.{Column}
 
 -- the bytes of the views, the data, the block table, the bytes of the null map
@@ -27,9 +27,9 @@ table_of (s ∷ ss) (n ∷ ns) = block s n ∷ table_of ss ns
 abbrev pub lent : List ℕ → List ℕ → List ℕ → List ℕ → List ℕ → Lent
 lent views bytes starts lens nulls = buffers views bytes (table_of starts lens) nulls
 
--- the same of the slices themselves, for contracts
-abbrev pub lent_of : Bor (List ℕ) → Bor (List ℕ) → Bor (List ℕ) → Bor (List ℕ) → Bor (List ℕ) → Lent
-lent_of views bytes starts lens nulls = lent views.now bytes.now starts.now lens.now nulls.now
+-- what the code's buffers hold
+abbrev pub lent_of : Buffers → Lent
+lent_of b = lent b.views.now b.bytes.now b.starts.now b.lens.now b.nulls.now
 
 -- the rows that a null map has bits for; a column without a map needs none
 abbrev pub map_room : Bool → List ℕ → ℕ

@@ -4,9 +4,8 @@ use Rattle.basis.specs.Pick.{pick}
 use Rattle.order.specs.Order.{same}
 use Rattle.utf8.specs.Table.{well_formed}
 use Rattle.views.specs.View.{length_of, prefix_of, body_of, is_short}
-use Rattle.bounds.specs.Refusals.{refuse}
+use Rattle.bounds.specs.Refusals.{refuse, Why}
 use Rattle.bounds.specs.declared.Refusal.TheVariants.{BadView}
-use Rattle.bounds.specs.declared.Why.{Why}
 use Rattle.column.specs.declared.Kind.{Kind}
 use Rattle.column.specs.declared.Kind.TheVariants.{Binary, Text}
 use Rattle.column.specs.declared.Column.{Column}

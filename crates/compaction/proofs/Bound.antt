@@ -1,4 +1,5 @@
 -- A compacted block is longer than the maximum only if exactly one row points into it. Assumes nothing.
+use Rattle.bounds.specs.Refusals.{accepted}
 use mathlib.Core.Path.{◌≡◌, refl, sym, ap, ◌∙◌, subst}
 use mathlib.Core.Bool.{Bool, true, false}
 use mathlib.Core.List.{List, [], ◌∷◌, ◌++◌}
@@ -11,7 +12,6 @@ use lib.Seq.{get_or-append_seam}
 use Rattle.basis.specs.Pick.{pick}
 use Rattle.views.specs.View.{short_most, is_short, length_of, long_view}
 use Rattle.views.specs.ViewLaws.{long-length, long-block}
-use Rattle.bounds.specs.declared.Why.TheVariants.{Accepted}
 use Rattle.column.specs.declared.Column.{Column}
 use Rattle.column.specs.Lent.{Lent, block_at}
 use Rattle.column.specs.Meaning.{row_view, blocks_of}
@@ -164,6 +164,6 @@ module _ (most : ℕ) (l : Lent) (c : Column) (out : Lent) (r : Room most l c ou
             (bytes_small most l c out r).1 k (rw (block-long k h) g);
       }
 
-pub compacted-bounded : (most : ℕ) (l : Lent) (c : Column) (out : Lent) → why_compact most l c out ≡ Accepted → Bounded most (compacted most l c out)
+pub compacted-bounded : (most : ℕ) (l : Lent) (c : Column) (out : Lent) → why_compact most l c out ≡ accepted → Bounded most (compacted most l c out)
     (compact_column most l c)
 compacted-bounded most l c out e = compact-bounded most l c out (room most l c out e)

@@ -1,7 +1,7 @@
 -- The verdict as the code finds it, what an accepted call gives the second pass, and the whole call. Assumes nothing.
-use Rattle.std.specs.Prelude.{◌≡◌, Bool, true, false, not, List, ℕ, ◌+◌, ◌*◌, ◌^◌, ◌≤◌, ◌<◌, ltb}
+use Rattle.std.specs.Prelude.{◌≡◌, Bool, true, false, not, List, ℕ, ◌+◌, ◌*◌, ◌^◌, ◌≤◌, ◌<◌, ltb, Err}
 use Rattle.std.proofs.Math.Path.{refl, sym, ap}
-use Rattle.std.proofs.Common.{◌∙◌, true≢false, arith, lt-ltb, le-ltb, eq-eqb, ne_eqb}
+use Rattle.std.proofs.Common.{◌∙◌, arith, lt-ltb, le-ltb, eq-eqb, ne_eqb}
 use Rattle.std.proofs.Math.Decide.{ℕ_discrete}
 use Rattle.std.proofs.Math.Logic.{by_cases}
 use Rattle.std.proofs.lemmas.Bool.{not-false}
@@ -9,25 +9,21 @@ use Rattle.std.proofs.Math.ListN.{length}
 use Rattle.null_bits.specs.Bits as bits
 use Rattle.null_bits.specs.Runs.{put_bits}
 use Rattle.bounds.specs.Bounds.{most_compaction, row-limit-small, block-limit-small, byte-limit-small}
-use Rattle.bounds.specs.Refusals.{refuse, is_accepted, if_accepted, refuse-yes, refuse-no, accepted-both, accepted-yes, accepted-no}
+use Rattle.bounds.specs.Refusals.{refuse, is_accepted, refuse-yes, refuse-no, accepted-both, accepted, Why}
 use Rattle.bounds.specs.declared.Refusal.{Refusal}
-use Rattle.bounds.specs.declared.Refusal.TheVariants.{Setting, Fit, BadView}
-use Rattle.bounds.specs.declared.Why.{Why}
-use Rattle.bounds.specs.declared.Why.TheVariants.{Refused}
+use Rattle.bounds.specs.declared.Refusal.TheVariants.{Setting, Fit}
 use Rattle.column.specs.declared.Column.{Column}
 use Rattle.column.specs.Lent.{Lent, lent, fits, in_data, row_room, block_room, data_room}
 use Rattle.column.specs.Room.{bare}
 use Rattle.column.specs.Meaning.{row_view, blocks_of, row_valid}
 use Rattle.column.specs.Truth.{reach_of, reachable, is_true, true_at, lowest}
 use Rattle.column.proofs.FitLaws.{Fitting, fits_gives, length-table}
-use Rattle.column.proofs.LowestLaws.{lowest-none, lowest-bad, lowest-good}
+use Rattle.column.proofs.LowestLaws.{lowest-none, lowest-good}
 use Rattle.showing.specs.Rooms.{rooms}
 use Rattle.compaction.specs.declared.Stand.{Stand}
-use Rattle.compaction.specs.declared.Survey.{Survey}
 use Rattle.compaction.specs.declared.Judged.{Judged}
-use Rattle.compaction.specs.declared.Outcome.{Outcome}
-use Rattle.compaction.specs.Compact.{long_lens, new_lens, why_compact, compacted, compact_column, compact_of, Wrote}
-use Rattle.compaction.specs.Steps.{stand_of, stand_at, SourceFits, Measured, Few, WriteIn, TableIn, CutCounted, Filled, CutListed, blocks_by, Judges, map_by}
+use Rattle.compaction.specs.Compact.{long_lens, new_lens, why_compact, compacted, compact_of, Wrote}
+use Rattle.compaction.specs.Steps.{stand_of, stand_at, SourceFits, Walked, Few, WriteIn, TableIn, Filled, CutListed, blocks_by, Counted, map_by}
 use Rattle.compaction.proofs.LaidLaws.{stand-total, lens_none, count-blocks}
 use Rattle.laying.specs.RoomLaws.{RoomGiven, rooms-give}
 use Rattle.laying.specs.Rooms.{why_rooms}
@@ -60,52 +56,46 @@ module _ (most : ℕ) (views bytes starts lens nulls : List ℕ) (c : Column) (o
   unfolding is_true reachable reach_of in_data data_room blocks_of
   rows_whole w = refl
 
-  pub refused : (r : Refusal) → Refused r ≡ why_compact most src c out → Judges most src c out (record { why = Refused r; blocks = 0; bytes = 0 })
-  refused r e = record { verdict = e; count = λ a. absurd (true≢false (sym (rw (← e) at a))) }
-
-  pub compact-setting : most_compaction < most → Refused Setting ≡ why_compact most src c out
+  pub compact-setting : most_compaction < most → Err Setting ≡ why_compact most src c out
   unfolding why_compact
-  compact-setting h = refuse-yes Setting (ltb most_compaction most) _ (Refused Setting) (lt-ltb most_compaction most h) refl
+  compact-setting h = refuse-yes Setting (ltb most_compaction most) _ (Err Setting) (lt-ltb most_compaction most h) refl
 
   module _ (set : most ≤ most_compaction) where
     past-setting : (w : Why) → w ≡ refuse Fit (not (fits src c)) (lowest (true_at c.kind src c) c.rows roomed) → w ≡ why_compact most src c out
     unfolding why_compact
     past-setting w e = refuse-no Setting (ltb most_compaction most) _ w (le-ltb most_compaction most set) e
 
-    pub compact-fit : not (fits src c) ≡ true → Refused Fit ≡ why_compact most src c out
-    compact-fit h = past-setting (Refused Fit) (refuse-yes Fit (not (fits src c)) _ (Refused Fit) h refl)
+    pub compact-fit : not (fits src c) ≡ true → Err Fit ≡ why_compact most src c out
+    compact-fit h = past-setting (Err Fit) (refuse-yes Fit (not (fits src c)) _ (Err Fit) h refl)
 
-    module _ (fit : not (fits src c) ≡ false) (m : Survey) (g : Measured most bared c m) where
-      pub compact-row : m.good < c.rows → Refused (BadView m.good) ≡ why_compact most src c out
-      compact-row h =
-          past-setting (Refused (BadView m.good))
-          (refuse-no Fit (not (fits src c)) _ (Refused (BadView m.good)) fit
-          (lowest-bad (true_at c.kind bared c) m.good c.rows roomed h g.truth (g.bad h) ∙ rows_whole roomed))
+    module _ (fit : not (fits src c) ≡ false) where
+      past-fit : (w : Why) → w ≡ lowest (true_at c.kind bared c) c.rows roomed → w ≡ why_compact most src c out
+      past-fit w e = past-setting w (refuse-no Fit (not (fits src c)) _ w fit (e ∙ rows_whole roomed))
+
+      pub compact-row : (e : Refusal) → ((w : Why) → Err e ≡ lowest (true_at c.kind bared c) c.rows w) → Err e ≡ why_compact most src c out
+      compact-row e h = past-fit (Err e) (h roomed)
 
       -- all rows are true: the verdict is that of the rooms, by the numbers of the first pass
-      module _ (all : c.rows ≤ m.good) where
-        good-is : m.good ≡ c.rows
-        good-is = omega (arith, g.within)
-
-        pub blocks_is : blocks_by m.stand ≡ length (new_lens most src c)
+      module _ (s : Stand) (g : Walked most bared c s) where
+        pub blocks_is : blocks_by s ≡ length (new_lens most src c)
         unfolding blocks_by
-        blocks_is = sym (count-blocks most (row_view src c) c.rows m.stand (g.stand good-is))
+        blocks_is = sym (count-blocks most (row_view src c) c.rows s g.stand)
 
-        bytes-is : m.stand.base + m.stand.fill ≡ total (long_lens src c c.rows)
-        bytes-is = rw (g.stand good-is) (stand-total most (long_lens src c c.rows))
+        bytes-is : s.base + s.fill ≡ total (long_lens src c c.rows)
+        bytes-is = rw g.stand (stand-total most (long_lens src c c.rows))
 
-        pub compact-rooms : (w : Why) (b : ℕ) → b ≡ blocks_by m.stand → w ≡ why_rooms c.mapped c.rows b (m.stand.base + m.stand.fill) out
+        pub compact-rooms : (w : Why) (b t : ℕ) → b ≡ blocks_by s → t ≡ s.base + s.fill → w ≡ why_rooms c.mapped c.rows b t out
             → w ≡ why_compact most src c out
-        compact-rooms w b e h =
-            past-setting w
-            (refuse-no Fit (not (fits src c)) _ w fit
-            (h ∙ ap (λ (k : ℕ). why_rooms c.mapped c.rows k (m.stand.base + m.stand.fill) out) (e ∙ blocks_is)
-            ∙ ap (λ (k : ℕ). why_rooms c.mapped c.rows (length (new_lens most src c)) k out) bytes-is
-            ∙ lowest-none (true_at c.kind bared c) c.rows roomed (λ r l. g.truth r (omega (arith, good-is))) ∙ rows_whole roomed))
+        compact-rooms w b t e f h =
+            past-fit w (rw (e ∙ blocks_is, f ∙ bytes-is) at h ∙ lowest-none (true_at c.kind bared c) c.rows roomed g.truth)
 
-        pub judged : (w : Why) (b : ℕ) → b ≡ blocks_by m.stand → w ≡ why_rooms c.mapped c.rows b (m.stand.base + m.stand.fill) out
-            → Judges most src c out (record { why = w; blocks = b; bytes = m.stand.base + m.stand.fill })
-        judged w b e h = record { verdict = compact-rooms w b e h; count = λ a. record { blocks = e ∙ blocks_is; bytes = bytes-is } }
+        pub judged : (j : Judged) → j.blocks ≡ blocks_by s → j.bytes ≡ s.base + s.fill → accepted ≡ why_rooms c.mapped c.rows j.blocks j.bytes out
+            → Counted most src c out j
+        judged j e f h =
+            record {
+              verdict = compact-rooms accepted j.blocks j.bytes e f h;
+              count = record { blocks = e ∙ blocks_is; bytes = f ∙ bytes-is };
+            }
 
 -- ---- what an accepted call gives
 
@@ -187,79 +177,49 @@ module _ (most : ℕ) (views bytes starts lens nulls : List ℕ) (c : Column) (v
 
 -- ---- the whole call
 
-outcome-is : (w w' : Why) (d d' : Column) → w ≡ w' → d ≡ d' → ◌≡◌ {A = Outcome} (record { why = w; column = d }) (record { why = w'; column = d' })
-outcome-is w w' d d' e f = cc
-
-module _ (most : ℕ) (views bytes starts lens nulls : List ℕ) (c : Column) (vs bs ss ns ms : List ℕ) (j : Judged)
-    (g : Judges most (lent views bytes starts lens nulls) c (lent vs bs ss ns ms) j) where
+module _ (most : ℕ) (views bytes starts lens nulls : List ℕ) (c : Column) (vs bs ss ns ms : List ℕ) where
   abbrev orig : Lent
   orig = lent views bytes starts lens nulls
 
   abbrev dest : Lent
   dest = lent vs bs ss ns ms
 
-  abbrev verdict : Why
-  verdict = why_compact most orig c dest
-
-  pub wrote-not : is_accepted j.why ≡ false → Wrote most orig c vs bs ss ns ms (record { why = j.why; column = c }) vs bs ss ns ms
+  pub wrote-not : (r : Refusal) → Err r ≡ why_compact most orig c dest → Wrote most orig c vs bs ss ns ms (record { why = Err r; column = c }) vs bs ss ns ms
   unfolding compact_of
-  wrote-not h =
-      record {
-        answer = outcome-is j.why verdict c (if_accepted verdict (compact_column most orig c) c) g.verdict (accepted-no verdict j.why
-            (compact_column most orig c) c c g.verdict h refl);
-        views = accepted-no verdict j.why (compacted most orig c dest).views vs vs g.verdict h refl;
-        bytes = accepted-no verdict j.why (compacted most orig c dest).bytes bs bs g.verdict h refl;
-        starts = accepted-no verdict j.why _ ss ss g.verdict h refl;
-        lens = accepted-no verdict j.why _ ns ns g.verdict h refl;
-        nulls = accepted-no verdict j.why (compacted most orig c dest).nulls ms ms g.verdict h refl;
-      }
+  wrote-not r e = record { answer = rw (← e); views = rw (← e); bytes = rw (← e); starts = rw (← e); lens = rw (← e); nulls = rw (← e) }
 
-  pub counted : is_accepted j.why ≡ true → CutCounted most (row_view orig c) c.rows j.blocks j.bytes
-  counted h = g.count (rw g.verdict at h)
+  module _ (j : Judged) (g : Counted most orig c dest j) where
+    pub accepts : is_accepted (why_compact most orig c dest) ≡ true
+    accepts = rw (← g.verdict)
 
-  pub accepted : is_accepted j.why ≡ true → is_accepted verdict ≡ true
-  accepted h = rw g.verdict at h
+    module _ (vs' bs' ss' ns' ms' : List ℕ) (f : Filled most (bare views bytes starts lens) c vs bs vs' bs')
+        (k : CutListed most (row_view orig c) c.rows ss ns ss' ns') (m : ms' ≡ map_by ms nulls c.mapped c.first c.rows) where
+      views-are : vs' ≡ (compacted most orig c dest).views
+      unfolding compacted blocks_of
+      views-are = f.views
 
-  module _ (h : is_accepted j.why ≡ true) (vs' bs' ss' ns' ms' : List ℕ) (f : Filled most (bare views bytes starts lens) c vs bs vs' bs')
-      (k : CutListed most (row_view (lent views bytes starts lens nulls) c) c.rows ss ns ss' ns')
-      (m : ms' ≡ map_by ms nulls c.mapped c.first c.rows) where
-    views-are : vs' ≡ (compacted most orig c dest).views
-    unfolding compacted blocks_of
-    views-are = f.views
+      bytes-are : bs' ≡ (compacted most orig c dest).bytes
+      unfolding compacted blocks_of
+      bytes-are = f.bytes
 
-    bytes-are : bs' ≡ (compacted most orig c dest).bytes
-    unfolding compacted blocks_of
-    bytes-are = f.bytes
+      nulls-are : ms' ≡ (compacted most orig c dest).nulls
+      unfolding compacted map_by row_valid
+      nulls-are = m
 
-    nulls-are : ms' ≡ (compacted most orig c dest).nulls
-    unfolding compacted map_by row_valid
-    nulls-are = m
-
-    column-is : ◌≡◌ {A = Column} (record { first = 0; rows = c.rows; blocks = j.blocks; kind = c.kind; mapped = c.mapped }) (compact_column most orig c)
-    column-is = rw (g.count (accepted h)).blocks
-
-    pub wrote : Wrote most orig c vs bs ss ns ms (record {
-      why = j.why;
-      column = record {
-        first = 0;
-        rows = c.rows;
-        blocks = j.blocks;
-        kind =
-            c.kind;
-        mapped = c.mapped;
-      };
-    }) vs' bs' ss' ns' ms'
-    unfolding compact_of
-    wrote =
-        record {
-          answer = outcome-is j.why verdict _ (if_accepted verdict (compact_column most orig c) c) g.verdict (accepted-yes verdict j.why
-              (compact_column most orig c) c _ g.verdict h column-is);
-          views = accepted-yes verdict j.why (compacted most orig c dest).views vs vs' g.verdict h views-are;
-          bytes = accepted-yes verdict j.why (compacted most orig c dest).bytes bs bs' g.verdict h bytes-are;
-          starts = accepted-yes verdict j.why _ ss ss' g.verdict h k.starts;
-          lens = accepted-yes verdict j.why _ ns ns' g.verdict h k.lens;
-          nulls = accepted-yes verdict j.why (compacted most orig c dest).nulls ms ms' g.verdict h nulls-are;
-        }
+      pub wrote : Wrote most orig c vs bs ss ns ms (record {
+        why = accepted;
+        column = record { first = 0; rows = c.rows; blocks = j.blocks; kind = c.kind; mapped = c.mapped };
+      }) vs' bs' ss' ns' ms'
+      unfolding compact_of
+      wrote =
+          record {
+            answer = rw (← g.verdict, g.count.blocks);
+            views = rw (← g.verdict) views-are;
+            bytes = rw (← g.verdict) bytes-are;
+            starts = rw (← g.verdict) k.starts;
+            lens = rw (← g.verdict) k.lens;
+            nulls = rw (← g.verdict) nulls-are;
+          }
 
 -- ---- the map
 

@@ -1,4 +1,5 @@
 -- A compacted column shows what the column showed, with the same bits, and is true again. Assumes nothing.
+use Rattle.bounds.specs.Refusals.{accepted}
 use mathlib.Core.Path.{◌≡◌, refl, sym, ap, ◌∙◌}
 use mathlib.Core.Bool.{Bool, true, false, not, ◌&&◌}
 use mathlib.Core.List.{List, [], map}
@@ -11,7 +12,6 @@ use lib.ListN.{length, get_or, length-map, get_or-append}
 use Rattle.basis.specs.Pick.{pick}
 use Rattle.bounds.specs.Bounds.{most_compaction, block-limit-small, byte-limit-small}
 use Rattle.bounds.specs.declared.Refusal.TheVariants.{Setting, Fit, RowRoom, BlockRoom, DataRoom}
-use Rattle.bounds.specs.declared.Why.TheVariants.{Accepted}
 use Rattle.null_bits.specs.Bits as bits
 use Rattle.null_bits.specs.Runs.{put_bits}
 use Rattle.null_bits.proofs.RunLaws.{length-bits}
@@ -45,7 +45,7 @@ pub record Room (most : ℕ) (l : Lent) (c : Column) (out : Lent) : Type 0 where
   pub blocks : length (new_lens most l c) ≤ block_room out
   pub bytes : total (long_lens l c c.rows) ≤ data_room out
 
-pub room : (most : ℕ) (l : Lent) (c : Column) (out : Lent) → why_compact most l c out ≡ Accepted → Room most l c out
+pub room : (most : ℕ) (l : Lent) (c : Column) (out : Lent) → why_compact most l c out ≡ accepted → Room most l c out
 unfolding why_compact why_rooms
 room most l c out e =
     let a = passed Setting (ltb most_compaction most) _ e in
@@ -179,14 +179,14 @@ module _ (most : ℕ) (l : Lent) (c : Column) (out : Lent) (r : Room most l c ou
       }
 
 -- whatever the column, each row shows what it showed
-pub compacted-alike : (most : ℕ) (l : Lent) (c : Column) (out : Lent) → why_compact most l c out ≡ Accepted
+pub compacted-alike : (most : ℕ) (l : Lent) (c : Column) (out : Lent) → why_compact most l c out ≡ accepted
     → Shows (compacted most l c out) (compact_column most l c) (rows_of (shown_at l c) c.rows) (bits_of l c)
 unfolding shown_at
 compacted-alike most l c out e = compact-shows most l c out (room most l c out e)
 
 -- a column that shows values and bits shows them compacted
 pub compacted-shows : (most : ℕ) (l : Lent) (c : Column) (out : Lent) {xs : List (List ℕ)} {bs : List Bool} → Shows l c xs bs
-    → why_compact most l c out ≡ Accepted
+    → why_compact most l c out ≡ accepted
     → Shows (compacted most l c out) (compact_column most l c) xs bs
 compacted-shows most l c out {xs} {bs} s e =
     let n : c.rows ≡ length xs = shows-rows s in
@@ -194,7 +194,7 @@ compacted-shows most l c out {xs} {bs} s e =
     rw (s.bits, v) at (compact-shows most l c out (room most l c out e))
 
 -- and is true
-pub compacted-true : (most : ℕ) (l : Lent) (c : Column) (out : Lent) → why_compact most l c out ≡ Accepted
+pub compacted-true : (most : ℕ) (l : Lent) (c : Column) (out : Lent) → why_compact most l c out ≡ accepted
     → (i : ℕ) → i < c.rows → true_at c.kind (compacted most l c out) (compact_column most l c) i ≡ true
 unfolding is_true shown_at
 compacted-true most l c out e i h =

@@ -1,7 +1,7 @@
 -- Laws of the walk over lengths: one value more, one row more, and the numbers that the code keeps. Assumes nothing.
 use Rattle.std.specs.Prelude.{◌≡◌, Bool, List, [], ◌∷◌, ◌++◌, ℕ, suc, ◌+◌, ◌*◌, ◌≤◌, ◌<◌, length, set, drop}
 use Rattle.std.proofs.Math.Path.{refl, ap}
-use Rattle.std.proofs.Common.{sym, ◌∙◌, append-nil, zero-add, add-one, arith, leb-true, leb-false, le-leb, length-append, take-take}
+use Rattle.std.proofs.Common.{◌∙◌, append-nil, add-one, arith, leb-true, leb-false, le-leb, length-append, take-take}
 use Rattle.std.proofs.Math.Bool.{true, false}
 use Rattle.std.proofs.lemmas.Bool.{lt-leb}
 use Rattle.std.proofs.Math.Dec.{leb}
@@ -11,7 +11,7 @@ use Rattle.views.specs.View.{view_size, short_most, length_of, view_at, long_vie
 use Rattle.compaction.specs.declared.Stand.{Stand}
 use Rattle.compaction.specs.Cut.{Cut, cut, shut, add, room_for, cut_from, cut_all}
 use Rattle.compaction.specs.Compact.{long_of}
-use Rattle.compaction.specs.Steps.{stand, stand_of, room_stand, add_stand, row_step, closed_at, recorded_at, LongPut, ShortPut, RowPut, TablePut}
+use Rattle.compaction.specs.Steps.{stand, stand_of, room_stand, add_stand, row_step, closed_at, recorded_at, LongPut, ShortPut, RowPut}
 use Rattle.laying.specs.Written.{total}
 use Rattle.laying.specs.WrittenLaws.{total-append, total-one}
 
@@ -71,6 +71,10 @@ pub stand-next : (most : ℕ) (len : ℕ → ℕ) (k n : ℕ) (s t : Stand) → 
     → t ≡ stand_of (cut_all most (long_of len len (k + 1)))
 stand-next most len k n s t e h g = rw (add-one k, stand-row most len k, ← e, ← h) g
 
+-- where the walk begins, by its numbers
+pub stand-start : (s : Stand) → (s.closed ≡ 0) × ((s.base ≡ 0) × (s.fill ≡ 0)) → s ≡ stand 0 0 0
+stand-start s h = λ i. stand (h.0 i) (h.1.0 i) (h.1.1 i)
+
 -- the numbers of the walk before the first row
 pub stand-none : (most : ℕ) (len : ℕ → ℕ) → stand 0 0 0 ≡ stand_of (cut_all most (long_of len len 0))
 unfolding stand_of cut_all cut_from long_of total
@@ -107,23 +111,23 @@ module _ (most n : ℕ) (s : Stand) where
   unfolding room_stand
   room-over h = le-no (s.fill + n) most s (stand (s.closed + 1) (s.base + s.fill) 0) (stand (s.closed + 1) (s.base + s.fill) 0) h refl
 
-  pub step_in : short_most < n → s.fill + n ≤ most → stand s.closed s.base (s.fill + n) ≡ row_step most n s
+  pub step-long : (t u : Stand) → short_most < n → t ≡ room_stand most n s → u ≡ add_stand n t → u ≡ row_step most n s
   unfolding row_step
-  step_in h k = le-no n short_most s (add_stand n (room_stand most n s)) (stand s.closed s.base (s.fill + n)) h (ap (add_stand n) (room_in_lem k))
+  step-long t u h e f = le-no n short_most s (add_stand n (room_stand most n s)) u h (f ∙ ap (add_stand n) e)
 
-  pub step-over : short_most < n → most < s.fill + n → stand (s.closed + 1) (s.base + s.fill) n ≡ row_step most n s
-  unfolding row_step
-  step-over h k =
-      le-no n short_most s (add_stand n (room_stand most n s)) (stand (s.closed + 1) (s.base + s.fill) n) h
-      (ap (stand (s.closed + 1) (s.base + s.fill)) (sym (zero-add n)) ∙ ap (add_stand n) (room-over k))
+  -- a record is written where a long value closes the block
+  pub recorded-over : (x : ℕ) (l : List ℕ) → short_most < n → most < s.fill + n → set l s.closed x ≡ recorded_at most n s x l
+  unfolding recorded_at closed_at
+  recorded-over x l h k =
+      le-no n short_most l (closed_at most n s x l) (set l s.closed x) h (le-no (s.fill + n) most l (set l s.closed x) (set l s.closed x) k refl)
 
-  pub closed_in : (x : ℕ) (l : List ℕ) → s.fill + n ≤ most → l ≡ closed_at most n s x l
-  unfolding closed_at
-  closed_in x l h = le_yes (s.fill + n) most l (set l s.closed x) l h refl
-
-  pub closed-over : (x : ℕ) (l : List ℕ) → most < s.fill + n → set l s.closed x ≡ closed_at most n s x l
-  unfolding closed_at
-  closed-over x l h = le-no (s.fill + n) most l (set l s.closed x) (set l s.closed x) h refl
+  pub recorded-none : (x : ℕ) (l : List ℕ) → (short_most < n → s.fill + n ≤ most) → l ≡ recorded_at most n s x l
+  unfolding recorded_at closed_at if_le
+  recorded-none x l h = by (leb n short_most) refl
+    where
+      by : (t : Bool) → leb n short_most ≡ t → l ≡ pick t l (if_le (s.fill + n) most l (set l s.closed x))
+      by true e = refl
+      by false e = le_yes (s.fill + n) most l (set l s.closed x) l (h (leb-false n short_most e)) refl
 
 -- where the value goes: the same place in the data, perhaps one block further
 pub record Roomed (s t : Stand) : Type 0 where
@@ -161,24 +165,3 @@ module _ (most r : ℕ) (v x : List ℕ) (s : Stand) (vs bs : List ℕ) (t : Sta
 
   pub row-long : (y : List ℕ) → short_most < length_of v → y ≡ x → LongPut most r y s vs bs t vs' bs' → RowPut most r v x s vs bs t vs' bs'
   row-long y h e p = rw (lt-leb (length_of v) short_most h, ← e) p
-
-module _ (most n : ℕ) (s : Stand) (ss ns : List ℕ) where
-  pub table-short : n ≤ short_most → TablePut most n s ss ns s ss ns
-  unfolding recorded_at
-  table-short h =
-      record {
-        next = step-short most n s h;
-        starts = le_yes n short_most ss (closed_at most n s s.base ss) ss h refl;
-        lens = le_yes n short_most ns (closed_at most n s s.fill ns) ns h refl;
-      }
-
-  pub table-long : (t u : Stand) (ss' ns' : List ℕ) → short_most < n → t ≡ room_stand most n s → u ≡ add_stand n t → ss' ≡ closed_at most n s s.base ss
-      → ns' ≡ closed_at most n s s.fill ns
-      → TablePut most n s ss ns u ss' ns'
-  unfolding recorded_at row_step
-  table-long t u ss' ns' h e f p q =
-      record {
-        next = le-no n short_most s (add_stand n (room_stand most n s)) u h (f ∙ ap (add_stand n) e);
-        starts = le-no n short_most ss (closed_at most n s s.base ss) ss' h p;
-        lens = le-no n short_most ns (closed_at most n s s.fill ns) ns' h q;
-      }

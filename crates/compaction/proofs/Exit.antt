@@ -3,8 +3,7 @@ use mathlib.Core.Path.{◌≡◌}
 use mathlib.Core.Bool.{true}
 use mathlib.Core.List.{List}
 use Prim.Native.Nat.{ℕ}
-use Rattle.bounds.specs.Refusals.{is_accepted}
-use Rattle.bounds.specs.declared.Why.{Why}
+use Rattle.bounds.specs.Refusals.{is_accepted, Why}
 use Rattle.column.specs.declared.Column.{Column}
 use Rattle.column.specs.Lent.{Lent, lent}
 use Rattle.compaction.specs.declared.Outcome.{Outcome}

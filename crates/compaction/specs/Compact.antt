@@ -4,9 +4,8 @@ use Rattle.basis.specs.Pick.{pick}
 use Rattle.null_bits.specs.Runs.{put_bits}
 use Rattle.views.specs.View.{length_of, is_short, long_view}
 use Rattle.bounds.specs.Bounds.{most_compaction}
-use Rattle.bounds.specs.Refusals.{refuse, if_accepted}
+use Rattle.bounds.specs.Refusals.{refuse, if_accepted, Why}
 use Rattle.bounds.specs.declared.Refusal.TheVariants.{Setting, Fit}
-use Rattle.bounds.specs.declared.Why.{Why}
 use Rattle.column.specs.declared.Column.{Column}
 use Rattle.column.specs.Lent.{Lent, buffers, lent, table_of, fits}
 use Rattle.column.specs.Meaning.{row_view, blocks_of, shown, row_valid}

@@ -1,19 +1,19 @@
 -- The walk by the numbers that the code keeps, and what the code does at a row. Assumes nothing.
-use Rattle.std.specs.Prelude.{◌≡◌, Bool, true, false, List, ℕ, ◌+◌, ◌*◌, ◌^◌, ◌≤◌, ◌<◌, eqb, length, set}
+use Rattle.std.specs.Prelude.{◌≡◌, Bool, true, false, List, ℕ, ◌+◌, ◌*◌, ◌^◌, ◌≤◌, ◌<◌, eqb, length, set, Result, Err, MatchResult}
 use Rattle.std.proofs.Math.Seq.{paste}
 use Rattle.basis.specs.Pick.{pick, if_le}
 use Rattle.views.specs.View.{view_size, short_most, length_of, is_short, long_view}
 use Rattle.bounds.specs.Bounds.{row_limit}
-use Rattle.bounds.specs.Refusals.{is_accepted}
+use Rattle.bounds.specs.Refusals.{accepted, Why}
+use Rattle.bounds.specs.declared.Refusal.{Refusal}
 use Rattle.null_bits.specs.Bits.{valid_at}
 use Rattle.null_bits.specs.Runs.{put_bits}
 use Rattle.column.specs.declared.Column.{Column}
 use Rattle.column.specs.Lent.{Lent}
 use Rattle.column.specs.Meaning.{row_view}
 use Rattle.column.specs.Laid.{flat}
-use Rattle.column.specs.Truth.{true_at}
+use Rattle.column.specs.Truth.{true_at, lowest}
 use Rattle.compaction.specs.declared.Stand.{Stand}
-use Rattle.compaction.specs.declared.Survey.{Survey}
 use Rattle.compaction.specs.declared.Judged.{Judged}
 use Rattle.compaction.specs.Cut.{Cut, cut_all, cut_lens}
 use Rattle.compaction.specs.Compact.{long_of, long_lens, view_by, new_view, new_bytes, why_compact}
@@ -52,13 +52,15 @@ pub record SourceFits (vs ss ns : List ℕ) (c : Column) : Type 0 where
   pub starts : c.blocks ≤ length ss
   pub lens : c.blocks ≤ length ns
 
--- the first pass: the lowest row that isn't true, or all rows and where the walk stands after them
-pub record Measured (most : ℕ) (l : Lent) (c : Column) (m : Survey) : Type 0 where
-  pub within : m.good ≤ c.rows
-  pub truth : (r : ℕ) → r < m.good → true_at c.kind l c r ≡ true
-  pub bad : m.good < c.rows → true_at c.kind l c m.good ≡ false
-  pub stand : m.good ≡ c.rows → m.stand ≡ stand_of (cut_all most (long_lens l c c.rows))
-  pub small : Small 0 m.stand
+-- the walk after all rows, each of which is true
+pub record Walked (most : ℕ) (l : Lent) (c : Column) (s : Stand) : Type 0 where
+  pub truth : (r : ℕ) → r < c.rows → true_at c.kind l c r ≡ true
+  pub stand : s ≡ stand_of (cut_all most (long_lens l c c.rows))
+  pub small : Small 0 s
+
+-- the first pass: that walk, or the lowest row that isn't true
+abbrev pub Measured : ℕ → Lent → Column → Result Stand Refusal → Type 0
+Measured most l c m = MatchResult m (Walked most l c) (λ e. (w : Why) → Err e ≡ lowest (true_at c.kind l c) c.rows w)
 
 -- the views have the row, the data the place; the value is long, and its numbers are of four bytes
 pub record PlaceIn (vs bs : List ℕ) (r : ℕ) (x : List ℕ) (s : Stand) : Type 0 where
@@ -160,10 +162,13 @@ pub record CutListed (most : ℕ) (view : ℕ → List ℕ) (n : ℕ) (ss ns ss'
 unfoldable pub blocks_by : Stand → ℕ
 blocks_by s = pick (eqb (s.base + s.fill) 0) 0 (s.closed + 1)
 
--- the verdict before anything is written, and the new blocks where it accepts
-pub record Judges (most : ℕ) (l : Lent) (c : Column) (out : Lent) (j : Judged) : Type 0 where
-  pub verdict : j.why ≡ why_compact most l c out
-  pub count : is_accepted (why_compact most l c out) ≡ true → CutCounted most (row_view l c) c.rows j.blocks j.bytes
+-- the new blocks where the call is accepted, and why it isn't; nothing is written yet
+pub record Counted (most : ℕ) (l : Lent) (c : Column) (out : Lent) (j : Judged) : Type 0 where
+  pub verdict : accepted ≡ why_compact most l c out
+  pub count : CutCounted most (row_view l c) c.rows j.blocks j.bytes
+
+abbrev pub Judges : ℕ → Lent → Column → Lent → Result Judged Refusal → Type 0
+Judges most l c out r = MatchResult r (Counted most l c out) (λ e. Err e ≡ why_compact most l c out)
 
 -- the map written anew, if there is one
 unfoldable pub map_by : List ℕ → List ℕ → Bool → ℕ → ℕ → List ℕ

@@ -1,3 +1,2 @@
-pub mod PlanLaws
-pub mod TurnLaws
+pub mod RecordLaws
 pub mod Only

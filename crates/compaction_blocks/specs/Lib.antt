@@ -1,2 +1,2 @@
 pub mod Compacts
-pub mod Turns
+pub mod Records

@@ -1,4 +1,5 @@
--- Sameness row by row, and the answer by the verdict. Assumes nothing.
+-- Whether two columns are the same, row by row. Assumes nothing.
+use Rattle.std.specs.Prelude.{Ok, Err}
 use mathlib.Core.Path.{◌≡◌, refl, sym, ap}
 use mathlib.Core.Bool.{Bool, true, false, not, ◌&&◌, beq}
 use mathlib.Core.List.{List}
@@ -6,15 +7,12 @@ use Prim.Native.Nat.{ℕ, zero, suc, ◌+◌, ◌<◌}
 use native.Mathlib.Nat.{not-suc-le-zero}
 use native.Mathlib.Numerals.{add-one}
 use native.Mathlib.Omega.{arith}
-use borrow.Author.Tests.{not-false, eq-eqb, ne_eqb}
+use borrow.Author.Tests.{not-false}
 use Rattle.order.specs.Order.{same}
 use Rattle.order.proofs.OrderLaws.{Tri, tri, below, level, above}
 use Rattle.null_bits.specs.Bits as bits
-use Rattle.bounds.specs.Refusals.{refuse, is_accepted, accepted-both}
-use Rattle.bounds.specs.declared.Refusal.{Refusal}
+use Rattle.bounds.specs.Refusals.{refuse, is_accepted, accepted-both, accepted, Why}
 use Rattle.bounds.specs.declared.Refusal.TheVariants.{Fit}
-use Rattle.bounds.specs.declared.Why.{Why}
-use Rattle.bounds.specs.declared.Why.TheVariants as why
 use Rattle.column.specs.declared.Column.{Column}
 use Rattle.column.specs.Lent.{Lent, lent, fits, in_data, data_room}
 use Rattle.column.specs.Room.{bare}
@@ -22,10 +20,7 @@ use Rattle.column.proofs.FitLaws.{fits_gives}
 use Rattle.column.specs.Meaning.{shown_at, row_valid, row_view, blocks_of, shown}
 use Rattle.column.specs.Truth.{reach_of, reachable, reachable_at, lowest}
 use Rattle.column.proofs.LowestLaws.{lowest-good}
-use Rattle.comparison.specs.declared.Verdict.{Verdict}
-use Rattle.comparison.specs.declared.Verdict.TheVariants.{Accepted, Left, Right}
-use Rattle.comparison.specs.declared.Sameness.TheVariants as sameness
-use Rattle.comparison.specs.Same.{why_all, why_same, alike, same_row, same_rows, same_column}
+use Rattle.comparison.specs.Same.{why_all, why_same, alike, same_row, same_rows}
 use Rattle.comparison.specs.Readable.{RowsInRoom, AllComparable}
 use Rattle.comparison.specs.VerdictLaws.{both-accepted}
 
@@ -42,11 +37,11 @@ rows-in-room views bytes starts lens nulls c h =
     record { limit = g.rows; views = g.views; starts = g.starts; lens = g.lens }
 
 module _ (l : Lent) (c : Column) where
-  pub all-unfit : not (fits l c) ≡ true → why.Refused Fit ≡ why_all l c
+  pub all-unfit : not (fits l c) ≡ true → Err Fit ≡ why_all l c
   unfolding why_all refuse
   all-unfit h = rw h
 
-  pub all-judged : (w : Why) → not (fits l c) ≡ false → w ≡ lowest (reachable_at l c) c.rows why.Accepted → w ≡ why_all l c
+  pub all-judged : (w : Why) → not (fits l c) ≡ false → w ≡ lowest (reachable_at l c) c.rows accepted → w ≡ why_all l c
   unfolding why_all refuse
   all-judged w h e = rw h e
 
@@ -54,7 +49,7 @@ module _ (l : Lent) (c : Column) where
   unfolding why_all
   all-reached h =
       let p = accepted-both Fit (not (fits l c)) _ h in
-      (not-false _ p.0, (lowest-good (reachable_at l c) c.rows why.Accepted p.1).0)
+      (not-false _ p.0, (lowest-good (reachable_at l c) c.rows accepted p.1).0)
 
 module _ (l : Lent) (c : Column) (m : Lent) (d : Column) where
   module _ (r : ℕ) (v w : Bool) (hv : v ≡ bits.valid_at l.nulls c.mapped (c.first + r)) (hw : w ≡ bits.valid_at m.nulls d.mapped
@@ -102,32 +97,10 @@ module _ (l : Lent) (c : Column) (m : Lent) (d : Column) where
       by (above g) more = absurd (omega arith)
 
   -- what is known where the question is answered
-  pub all-comparable : why_same l c m d ≡ Accepted → AllComparable l c m d
+  pub all-comparable : why_same l c m d ≡ Ok tt → AllComparable l c m d
   unfolding why_same
   all-comparable h =
       let p = both-accepted (why_all l c) (why_all m d) h in
       let q = all-reached l c (ap is_accepted p.0) in
       let r = all-reached m d (ap is_accepted p.1) in
       record { fit = q.0; fit2 = r.0; reach = q.1; reach2 = r.1 }
-
-  -- the answer by the verdict
-  module _ (v : Verdict) (is : v ≡ why_same l c m d) where
-    pub same_left : (r : Refusal) → v ≡ Left r → sameness.Left r ≡ same_column l c m d
-    unfolding same_column
-    same_left r e = rw (← is, e)
-
-    pub same-right : (r : Refusal) → v ≡ Right r → sameness.Right r ≡ same_column l c m d
-    unfolding same_column
-    same-right r e = rw (← is, e)
-
-    pub other-count : v ≡ Accepted → (c.rows ≡ d.rows → ⊥) → sameness.Different ≡ same_column l c m d
-    unfolding same_column
-    other-count e ne = rw (← is, e, ne_eqb c.rows d.rows ne)
-
-    pub rows_same : v ≡ Accepted → c.rows ≡ d.rows → true ≡ same_rows l c m d c.rows → sameness.Same ≡ same_column l c m d
-    unfolding same_column
-    rows_same e q t = rw (← is, e, eq-eqb c.rows d.rows q, ← t)
-
-    pub rows-differ : v ≡ Accepted → c.rows ≡ d.rows → false ≡ same_rows l c m d c.rows → sameness.Different ≡ same_column l c m d
-    unfolding same_column
-    rows-differ e q t = rw (← is, e, eq-eqb c.rows d.rows q, ← t)

@@ -1,5 +1,7 @@
 -- The verdict on two columns by the verdicts on each, and what is known where neither is refused. Assumes nothing.
-use Rattle.std.specs.Prelude.{◌≡◌, refl, Bool, true, false, ◌&&◌, take, drop}
+use Rattle.comparison.specs.declared.Side.TheVariants.{Left, Right}
+use Rattle.comparison.specs.declared.Side.{Side}
+use Rattle.std.specs.Prelude.{◌≡◌, refl, Bool, true, false, ◌&&◌, take, drop, Ok, Err, Some, None, Result, Option, ⊤}
 use Rattle.std.proofs.Common.{sym, ◌∙◌, arith, le-leb, take_all}
 use Rattle.std.proofs.Math.Path.{ap, ap₂}
 use mathlib.Core.List.{List}
@@ -8,14 +10,11 @@ use Rattle.std.proofs.lemmas.Bool.{lt-leb}
 use Rattle.std.proofs.Math.Dec.{leb}
 use Rattle.std.proofs.Math.ListN.{length}
 use Rattle.basis.specs.Pick.{pick, part-is}
-use Rattle.bounds.specs.Refusals.{number_of, is_accepted}
+use Rattle.bounds.specs.Refusals.{number_of, is_accepted, accepted, Why}
 use Rattle.bounds.specs.declared.Refusal.{Refusal}
-use Rattle.bounds.specs.declared.Why.{Why}
-use Rattle.bounds.specs.declared.Why.TheVariants as why
 use Rattle.words.specs.Words.{Bytes, be_at}
-use Rattle.order.specs.declared.Order.{Order}
-use Rattle.order.specs.declared.Order.TheVariants.{Less, Equal, Greater}
-use Rattle.order.specs.Order.{ordering, thenby, cmp, short_order}
+use Rattle.order.specs.Order.{Order, ordering, thenby, cmp, short_order}
+use Rattle.std.proofs.Common.{Less, Equal, Greater}
 use Rattle.order.proofs.WordOrder.{four-first, four-short}
 use Rattle.views.specs.View.{view_size, view_at, length_of, body_of, prefix_of, is_short}
 use Rattle.views.specs.ViewLaws.{length-view}
@@ -29,45 +28,40 @@ use Rattle.column.specs.Truth.{reachable_at}
 use Rattle.reading.specs.Reading.{why_value, value_at}
 use Rattle.reading.proofs.ReadingLaws.{value-readable}
 use Rattle.reading.proofs.WalkLaws.{value-shown}
-use Rattle.comparison.specs.declared.Compared.TheVariants as compared
-use Rattle.comparison.specs.declared.Verdict.{Verdict}
-use Rattle.comparison.specs.declared.Verdict.TheVariants.{Accepted, Left, Right}
 use Rattle.comparison.specs.Readable.{ViewReadable, Comparable}
-use Rattle.comparison.specs.declared.ByViews.{ByViews}
-use Rattle.comparison.specs.declared.ByViews.TheVariants as by
 use Rattle.comparison.specs.Compare.{both_of, why_compare, compare_views, told_by, order_of, compare_rows}
 
 -- the verdict, where each row's is known
 module _ (w v : Why) where
-  pub verdict-is : (w' v' : Why) (r : Verdict) → w ≡ w' → v ≡ v' → r ≡ both_of w' v' → r ≡ both_of w v
+  pub verdict-is : (w' v' : Why) (r : Result ⊤ Side) → w ≡ w' → v ≡ v' → r ≡ both_of w' v' → r ≡ both_of w v
   verdict-is w' v' r e f g = rw (e, f) g
 
-  module _ (r s : Refusal) (a b : ℕ) (ew : w ≡ why.Refused r) (ev : v ≡ why.Refused s) (ea : a ≡ number_of r) (eb : b ≡ number_of s) where
-    by_number : (t : Bool) → leb a b ≡ t → pick t (Left r) (Right s) ≡ both_of w v
+  module _ (r s : Refusal) (a b : ℕ) (ew : w ≡ Err r) (ev : v ≡ Err s) (ea : a ≡ number_of r) (eb : b ≡ number_of s) where
+    by_number : (t : Bool) → leb a b ≡ t → pick t (Err (Left r)) (Err (Right s)) ≡ both_of w v
     unfolding both_of
-    by_number t h = verdict-is (why.Refused r) (why.Refused s) (pick t (Left r) (Right s)) ew ev (ap (λ (o : Bool). pick o (Left r) (Right s)) (sym h
+    by_number t h = verdict-is (Err r) (Err s) (pick t (Err (Left r)) (Err (Right s))) ew ev (ap (λ (o : Bool). pick o (Err (Left r)) (Err (Right s))) (sym h
         ∙ ap₂ leb ea eb))
 
-    pub left-lower : a ≤ b → Left r ≡ both_of w v
+    pub left-lower : a ≤ b → Err (Left r) ≡ both_of w v
     left-lower h = by_number true (le-leb a b h)
 
-    pub right-lower : b < a → Right s ≡ both_of w v
+    pub right-lower : b < a → Err (Right s) ≡ both_of w v
     right-lower h = by_number false (lt-leb a b h)
 
 -- a call on two columns is accepted where it is on each
-pub both-accepted : (w v : Why) → both_of w v ≡ Accepted → (w ≡ why.Accepted) × (v ≡ why.Accepted)
+pub both-accepted : (w v : Why) → both_of w v ≡ Ok tt → (w ≡ accepted) × (v ≡ accepted)
 unfolding both_of
-both-accepted why.Accepted why.Accepted h = (refl, refl)
-both-accepted why.Accepted (why.Refused s) h = let z : ◌≡◌ {A = ℕ} 0 1 = cc in absurd (omega arith)
-both-accepted (why.Refused r) why.Accepted h = let z : ◌≡◌ {A = ℕ} 0 1 = cc in absurd (omega arith)
-both-accepted (why.Refused r) (why.Refused s) h = by (leb (number_of r) (number_of s)) h
+both-accepted (Ok _) (Ok _) h = (refl, refl)
+both-accepted (Ok _) (Err s) h = let z : ◌≡◌ {A = ℕ} 0 1 = cc in absurd (omega arith)
+both-accepted (Err r) (Ok _) h = let z : ◌≡◌ {A = ℕ} 0 1 = cc in absurd (omega arith)
+both-accepted (Err r) (Err s) h = by (leb (number_of r) (number_of s)) h
   where
-    by : (t : Bool) → pick t (Left r) (Right s) ≡ Accepted → (why.Refused r ≡ why.Accepted) × (why.Refused s ≡ why.Accepted)
+    by : (t : Bool) → pick t (Err (Left r)) (Err (Right s)) ≡ Ok (tt {0}) → (Err r ≡ accepted) × (Err s ≡ accepted)
     by true h = let z : ◌≡◌ {A = ℕ} 0 1 = cc in absurd (omega arith)
     by false h = let z : ◌≡◌ {A = ℕ} 0 1 = cc in absurd (omega arith)
 
 -- what is known of a comparison that is accepted
-pub comparable : (l : Lent) (c : Column) (i : ℕ) (m : Lent) (d : Column) (j : ℕ) → why_compare l c i m d j ≡ Accepted → Comparable l c i m d j
+pub comparable : (l : Lent) (c : Column) (i : ℕ) (m : Lent) (d : Column) (j : ℕ) → why_compare l c i m d j ≡ Ok tt → Comparable l c i m d j
 unfolding why_compare
 comparable l c i m d j h =
     let p = both-accepted (why_value l c i) (why_value m d j) h in
@@ -76,7 +70,7 @@ comparable l c i m d j h =
     record { fit = q.fit; fit2 = r.fit; row = q.row; row2 = r.row; reach = q.reach; reach2 = r.reach }
 
 -- the verdict on two rows by where the value of each stands
-pub both_is : (l : Lent) (c : Column) (i : ℕ) (m : Lent) (d : Column) (j : ℕ) (w v : Why) (r : Verdict) → w ≡ why_value l c i → v ≡ why_value m d j
+pub both_is : (l : Lent) (c : Column) (i : ℕ) (m : Lent) (d : Column) (j : ℕ) (w v : Why) (r : Result ⊤ Side) → w ≡ why_value l c i → v ≡ why_value m d j
     → r ≡ both_of w v → r ≡ why_compare l c i m d j
 unfolding why_compare
 both_is l c i m d j w v r ew ev er = er ∙ ap₂ both_of ew ev
@@ -87,17 +81,13 @@ order-back Less = refl
 order-back Equal = refl
 order-back Greater = refl
 
-module _ (l : Lent) (c : Column) (i : ℕ) (m : Lent) (d : Column) (j : ℕ) (v : Verdict) (is : v ≡ why_compare l c i m d j) where
-  pub compared-left : (r : Refusal) → v ≡ Left r → compared.Left r ≡ compare_rows l c i m d j
+module _ (l : Lent) (c : Column) (i : ℕ) (m : Lent) (d : Column) (j : ℕ) (v : Result ⊤ Side) (is : v ≡ why_compare l c i m d j) where
+  pub compared-no : (s : Side) → v ≡ Err s → Err s ≡ compare_rows l c i m d j
   unfolding compare_rows
-  compared-left r e = rw (← is, e)
+  compared-no s e = rw (← is, e)
 
-  pub compared-right : (r : Refusal) → v ≡ Right r → compared.Right r ≡ compare_rows l c i m d j
-  unfolding compare_rows
-  compared-right r e = rw (← is, e)
-
-  pub compared_is : (o : Order) → v ≡ Accepted
-      → ordering o ≡ compare_views (blocks_of l c.blocks) (row_view l c i) (blocks_of m d.blocks) (row_view m d j) → compared.Is o ≡ compare_rows l c i m d j
+  pub compared_is : (o : Order) → v ≡ Ok tt
+      → ordering o ≡ compare_views (blocks_of l c.blocks) (row_view l c i) (blocks_of m d.blocks) (row_view m d j) → Ok o ≡ compare_rows l c i m d j
   unfolding compare_rows
   compared_is o e p = rw (← is, e, ← p, order-back o)
 
@@ -137,28 +127,28 @@ four-order bs v cs w bv bw h g p q ep eq ne = by (is_short (length_of v) && is_s
     by false = four-first v w bv bw h g p q ep eq ne (cmp (shown bs v) (shown cs w))
 
 -- what two views tell, in hand
-module _ (t : ByViews) (whole r : Ordering) (is : told_by t whole ≡ r) where
-  pub told_is : (o : Order) → t ≡ by.Is o → ordering o ≡ r
+module _ (t : Option Order) (whole r : Ordering) (is : told_by t whole ≡ r) where
+  pub told_is : (o : Order) → t ≡ Some o → ordering o ≡ r
   told_is o e = rw e at is
 
-  pub told-whole : t ≡ by.Whole → whole ≡ r
+  pub told-whole : t ≡ None → whole ≡ r
   told-whole e = rw e at is
 
 -- two rows whose comparison is accepted, by their views and values
 module _ (views bytes nulls : List ℕ) (table : List Block) (c : Column) (i : ℕ) (views2 bytes2 nulls2 : List ℕ) (table2 : List Block) (d : Column) (j : ℕ)
-    (r : Verdict) (o : Order) (x y v w : List ℕ) where
+    (r : Result ⊤ Side) (o : Order) (x y v w : List ℕ) where
   abbrev l : Lent
   l = buffers views bytes table nulls
 
   abbrev m : Lent
   m = buffers views2 bytes2 table2 nulls2
 
-  pub compared-by : r ≡ why_compare l c i m d j → r ≡ Accepted
+  pub compared-by : r ≡ why_compare l c i m d j → r ≡ Ok tt
       → (view_size * (c.first + i) + view_size ≤ length views → v ≡ view_at views (c.first + i))
       → (view_size * (d.first + j) + view_size ≤ length views2 → w ≡ view_at views2 (d.first + j))
       → x ≡ value_at l c i → y ≡ value_at m d j
       → ((bs cs : List (List ℕ)) → length v ≡ view_size → length w ≡ view_size → x ≡ shown bs v → y ≡ shown cs w → ordering o ≡ compare_views bs v cs w)
-      → compared.Is o ≡ compare_rows l c i m d j
+      → Ok o ≡ compare_rows l c i m d j
   unfolding shown_at
   compared-by is e f g ex ey order =
       let k = comparable l c i m d j (sym is ∙ e) in

@@ -13,28 +13,14 @@ use whole::Place;
 pub fn read_all<R: Read>(from: &mut R, input: &mut [u8]) -> io::Result<usize>
     ensures { ReadsAtMost result input.new }
 {
-    let mut done = 0;
-    while done < input.len() {
-        let n = from.read(&mut input[done..])?;
-        if n == 0 {
-            return Ok(done);
-        }
-        done += n;
-    }
-    Ok(done)
+    lists::read_full(from, input)
 }
 
 // Does an answer that begins there refuse the input?
 pub fn is_refusal(p: Place) -> bool
     ensures { result ≡ is_refusal p }
 {
-    match p {
-        Place::Refused(n) => true,
-        Place::Opening => false,
-        Place::Line(k) => false,
-        Place::Part(k, at) => false,
-        Place::End => false,
-    }
+    matches!(p, Place::Refused(_))
 }
 
 // Says on standard error what failed and why. A pipe that was closed is no news.

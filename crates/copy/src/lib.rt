@@ -1,11 +1,8 @@
-// A copy of any length to the front of a slice: by overlapping words to 64 bytes, above through an array, which becomes memmove.
+// A copy of any length to the front of a slice: by overlapping words to 64 bytes, above by std's `copy_from_slice`, a memmove.
 #![tactic(auto)]
 
 ghost use Rattle.std.specs.Prelude.{◌≡◌, ◌+◌, ◌≤◌, length};
 ghost use Rattle.copy.specs.Over.{over};
-
-// The bytes that one memmove copies. Without optimization the array stands on the stack.
-const CHUNK: usize = 16384;
 
 // 8 to 16 bytes: two words that may overlap.
 fn two_words(src: &[u8], dst: &mut [u8])
@@ -40,10 +37,7 @@ fn half(n: usize) -> usize
     requires { (16 ≤ n) × (n ≤ 64) }
     ensures { (16 ≤ result) × (result ≤ 32) × (result ≤ n) × (n ≤ result + result) }
 {
-    if n <= 32 {
-        return 16;
-    }
-    32
+    if n <= 32 { 16 } else { 32 }
 }
 
 // 16 to 64 bytes: the first half and the last, which may overlap. No branch asks which half it is: lengths in no order cost no more than one length.
@@ -57,28 +51,12 @@ fn two_halves(src: &[u8], dst: &mut [u8])
     four_words(&src[o..], &mut dst[o..]);
 }
 
-// At most a chunk, through an array: LLVM makes one memmove of the two loops.
-fn chunk(src: &[u8], dst: &mut [u8])
-    requires src_len_bound { length src.now ≤ 16384 }
-    requires src_in_bounds { length src.now ≤ length dst.old }
-    ensures { dst.new ≡ over src.now dst.old }
-{
-    let n = src.len();
-    dst[..n].copy_from_slice(src);
-}
-
-// Any length, a chunk a turn: for bytes that are many.
+// Any length, by one memmove: for bytes that are many, or fewer than eight.
 pub fn chunks(src: &[u8], dst: &mut [u8])
     requires { length src.now ≤ length dst.old }
     ensures { dst.new ≡ over src.now dst.old }
 {
-    let n = src.len();
-    let mut o = 0;
-    while o < n {
-        let e = o + basis::least(n - o, CHUNK);
-        chunk(&src[o..e], &mut dst[o..]);
-        o = e;
-    }
+    dst[..src.len()].copy_from_slice(src);
 }
 
 // `src` is written over the front of `dst`.
@@ -88,13 +66,11 @@ pub fn copy(src: &[u8], dst: &mut [u8])
 {
     let n = src.len();
     if n < 8 {
-        chunk(src, dst);
+        chunks(src, dst);
     } else if n <= 16 {
         two_words(src, dst);
     } else if n <= 64 {
         two_halves(src, dst);
-    } else if n <= CHUNK {
-        chunk(src, dst);
     } else {
         chunks(src, dst);
     }

@@ -1,4 +1,6 @@
 -- The place of a row's value names the value's bytes, as many as it says, and lies in its buffer. Assumes nothing.
+use Rattle.bounds.specs.declared.Refusal.{Refusal}
+use Rattle.std.specs.Prelude.{Ok, Err, Result}
 use mathlib.Core.Path.{◌≡◌, refl, ap, ◌∙◌}
 use mathlib.Core.List.{List}
 use Prim.Native.Nat.{ℕ, ◌+◌, ◌≤◌, ◌<◌}
@@ -6,9 +8,7 @@ use native.Mathlib.Omega.{arith}
 use lib.ListN.{length, drop, length-drop}
 use lib.Seq.{length-take-le}
 use Rattle.bounds.specs.Bounds.{row-limit-is, byte_limit, byte-limit-is, row_limit}
-use Rattle.bounds.specs.Refusals.{is_accepted}
-use Rattle.bounds.specs.declared.Why.{Why}
-use Rattle.bounds.specs.declared.Why.TheVariants.{Accepted, Refused}
+use Rattle.bounds.specs.Refusals.{is_accepted, Why, answered}
 use Rattle.views.specs.View.{block_of, view_at}
 use Rattle.column.specs.declared.Block.{Block}
 use Rattle.column.specs.declared.Column.{Column}
@@ -18,9 +18,7 @@ use Rattle.column.specs.Lent.{Lent, buffers, block_at, data_room}
 use Rattle.column.specs.Spot.{spot_in, bytes_at, Lies}
 use Rattle.column.proofs.FitLaws.{fits-limit}
 use Rattle.column.proofs.SpotLaws.{Stood, in-views, in-data, no_block, outside, stood}
-use Rattle.reading.specs.declared.Located.{Located}
-use Rattle.reading.specs.declared.Located.TheVariants as located
-use Rattle.reading.specs.Reading.{why_value, located_by, located_at, value_at, located_bytes, LiesAt}
+use Rattle.reading.specs.Reading.{why_value, located_at, value_at, located_bytes, LiesAt}
 use Rattle.reading.proofs.ReadingLaws.{value-readable}
 use Rattle.reading.proofs.LocatedLaws.{located-lies, located-bytes}
 use Rattle.numbers.specs.declared.Place.{Place}
@@ -31,21 +29,21 @@ module _ (views bytes nulls : List ℕ) (table : List Block) where
   abbrev l : Lent
   l = buffers views bytes table nulls
 
-  place-bytes : (x : Located) → named l (place_told x) ≡ located_bytes views bytes x
+  place-bytes : (x : Result Spot Refusal) → named l (place_told x) ≡ located_bytes views bytes x
   unfolding named located_bytes bytes_at
-  place-bytes (located.At (spot.View o n)) = refl
-  place-bytes (located.At (spot.Data o n)) = refl
-  place-bytes (located.At spot.NoBlock) = refl
-  place-bytes (located.At spot.Outside) = refl
-  place-bytes (located.Refused r) = refl
+  place-bytes (Ok (spot.View o n)) = refl
+  place-bytes (Ok (spot.Data o n)) = refl
+  place-bytes (Ok spot.NoBlock) = refl
+  place-bytes (Ok spot.Outside) = refl
+  place-bytes (Err r) = refl
 
-  place-length : (x : Located) → LiesAt views bytes x → length (named l (place_told x)) ≡ (place_told x).len
+  place-length : (x : Result Spot Refusal) → LiesAt views bytes x → length (named l (place_told x)) ≡ (place_told x).len
   unfolding named LiesAt Lies
-  place-length (located.At (spot.View o n)) h = length-take-le n (drop o views) (simp length-drop (omega arith))
-  place-length (located.At (spot.Data o n)) h = length-take-le n (drop o bytes) (simp length-drop (omega arith))
-  place-length (located.At spot.NoBlock) h = refl
-  place-length (located.At spot.Outside) h = refl
-  place-length (located.Refused r) h = refl
+  place-length (Ok (spot.View o n)) h = length-take-le n (drop o views) (simp length-drop (omega arith))
+  place-length (Ok (spot.Data o n)) h = length-take-le n (drop o bytes) (simp length-drop (omega arith))
+  place-length (Ok spot.NoBlock) h = refl
+  place-length (Ok spot.Outside) h = refl
+  place-length (Err r) h = refl
 
   module _ (c : Column) (r : ℕ) where
     -- the place names the value's bytes, as many as it says
@@ -73,10 +71,10 @@ module _ (views bytes nulls : List ℕ) (table : List Block) where
         at-spot h spot.Outside (outside a b) = omega arith
 
         by : (w : Why) → why_value l c r ≡ w
-            → (place_told (located_by w (spot_in l c.blocks view (c.first + r)))).offset + (place_told
-            (located_by w (spot_in l c.blocks view (c.first + r)))).len ≤ byte_limit
-        by Accepted q =
+            → (place_told (answered w (spot_in l c.blocks view (c.first + r)))).offset + (place_told
+            (answered w (spot_in l c.blocks view (c.first + r)))).len ≤ byte_limit
+        by (Ok _) q =
             let g = value-readable l c r (ap is_accepted q) in
             at-spot (fits-limit views bytes nulls table c r g.fit g.row) (spot_in l c.blocks view (c.first + r))
             (stood (data_room l) c.blocks (block_at l (block_of view)) view (c.first + r))
-        by (Refused z) q = omega arith
+        by (Err z) q = omega arith

@@ -3,7 +3,7 @@
 
 ghost use Rattle.std.specs.Prelude.{◌≡◌};
 ghost use Rattle.bounds.specs.Refusals.{why_number};
-ghost use Rattle.column.specs.Lent.{lent_of};
+ghost use Rattle.column.specs.Lent.{lent};
 ghost use Rattle.reading.specs.Reading.{why_value};
 ghost use Rattle.validity.specs.Check.{why_invalid};
 ghost use Rattle.comparison.specs.Compare.{compare_rows};
@@ -11,10 +11,11 @@ ghost use Rattle.comparison.specs.Same.{same_column};
 ghost use Rattle.numbers.specs.Numbers.{column_from, why_told};
 ghost use Rattle.exports.specs.Exported.{order_number, compared_number, same_told, place_told, place_at};
 
-use comparison::{Compared, Sameness};
+use bounds::Refusal;
+use column::{Buffers, Spot};
+use comparison::Side;
 use numbers::{Place, Told};
-use order::Order;
-use reading::Located;
+use std::cmp::Ordering;
 
 pub mod parts;
 
@@ -27,39 +28,41 @@ pub struct Run {
     pub rows: usize,
 }
 
-fn order_number(o: Order) -> u64
+fn order_number(o: Ordering) -> u64
     ensures { result ≡ order_number o }
 {
     match o {
-        Order::Less => return 0,
-        Order::Equal => return 1,
-        Order::Greater => return 2,
+        Ordering::Less => 0,
+        Ordering::Equal => 1,
+        Ordering::Greater => 2,
     }
 }
 
-pub fn compared_number(c: Compared) -> u64
+pub fn compared_number(c: Result<Ordering, Side>) -> u64
     ensures { result ≡ compared_number c }
 {
     match c {
-        Compared::Is(o) => return order_number(o),
-        Compared::Left(r) => return 16 + bounds::number(r) as u64,
-        Compared::Right(r) => return 32 + bounds::number(r) as u64,
+        Ok(o) => order_number(o),
+        Err(Side::Left(r)) => 16 + r.number() as u64,
+        Err(Side::Right(r)) => 32 + r.number() as u64,
     }
 }
 
-fn told_same(s: Sameness) -> Told
+fn told_same(s: Result<bool, Side>) -> Told
     ensures { result ≡ same_told s }
 {
     match s {
-        Sameness::Different => return Told { number: 0, row: 0 },
-        Sameness::Same => return Told { number: 1, row: 0 },
-        Sameness::Left(r) => return Told {
-            number: 16 + bounds::number(r) as u64,
-            row: bounds::row(r),
+        Ok(same) => Told {
+            number: u64::from(same),
+            row: 0,
         },
-        Sameness::Right(r) => return Told {
-            number: 32 + bounds::number(r) as u64,
-            row: bounds::row(r),
+        Err(Side::Left(r)) => Told {
+            number: 16 + r.number() as u64,
+            row: r.row(),
+        },
+        Err(Side::Right(r)) => Told {
+            number: 32 + r.number() as u64,
+            row: r.row(),
         },
     }
 }
@@ -74,15 +77,17 @@ pub fn tambuyeel_why_value(
     column: &[usize; 5],
     row: usize,
 ) -> u8
-    ensures { result ≡ why_number (why_value (lent_of views.entry bytes.entry starts.entry lens.entry nulls.entry)
+    ensures { result ≡ why_number (why_value (lent views.now bytes.now starts.now lens.now nulls.now)
         (column_from column.now) row) }
 {
     bounds::why_number(reading::why_value(
-        views,
-        bytes,
-        starts,
-        lens,
-        nulls,
+        Buffers {
+            views,
+            bytes,
+            starts,
+            lens,
+            nulls,
+        },
         numbers::column_of(column),
         row,
     ))
@@ -97,15 +102,17 @@ pub fn tambuyeel_check<'a>(
     nulls: &[u8],
     column: &[usize; 5],
 ) -> Told
-    ensures { result ≡ why_told (why_invalid (lent_of views.entry bytes.entry starts.entry lens.entry nulls.entry)
+    ensures { result ≡ why_told (why_invalid (lent views.now bytes.now starts.now lens.now nulls.now)
         (column_from column.now)) }
 {
     numbers::told_why(validity::check(
-        views,
-        bytes,
-        starts,
-        lens,
-        nulls,
+        Buffers {
+            views,
+            bytes,
+            starts,
+            lens,
+            nulls,
+        },
         numbers::column_of(column),
     ))
 }
@@ -127,15 +134,27 @@ pub fn tambuyeel_compare<'a>(
     column2: &[usize; 5],
     j: usize,
 ) -> u64
-    ensures { result ≡ compared_number (compare_rows (lent_of views.entry bytes.entry starts.entry lens.entry nulls.entry)
-        (column_from column.now) i (lent_of views2.entry bytes2.entry starts2.entry lens2.entry nulls2.entry)
+    ensures { result ≡ compared_number (compare_rows (lent views.now bytes.now starts.now lens.now nulls.now)
+        (column_from column.now) i (lent views2.now bytes2.now starts2.now lens2.now nulls2.now)
         (column_from column2.now) j) }
 {
     let c = numbers::column_of(column);
     let d = numbers::column_of(column2);
-    compared_number(comparison::compare(
-        views, bytes, starts, lens, nulls, c, i, views2, bytes2, starts2, lens2, nulls2, d, j,
-    ))
+    let l = Buffers {
+        views,
+        bytes,
+        starts,
+        lens,
+        nulls,
+    };
+    let m = Buffers {
+        views: views2,
+        bytes: bytes2,
+        starts: starts2,
+        lens: lens2,
+        nulls: nulls2,
+    };
+    compared_number(comparison::compare(l, c, i, m, d, j))
 }
 
 // 1 where two columns are the same, 0 where they aren't; refused, the number and 16 on the left, 32 on the right, with the row that it names.
@@ -153,24 +172,36 @@ pub fn tambuyeel_same_column<'a>(
     nulls2: &[u8],
     column2: &[usize; 5],
 ) -> Told
-    ensures { result ≡ same_told (same_column (lent_of views.entry bytes.entry starts.entry lens.entry nulls.entry)
-        (column_from column.now) (lent_of views2.entry bytes2.entry starts2.entry lens2.entry nulls2.entry)
+    ensures { result ≡ same_told (same_column (lent views.now bytes.now starts.now lens.now nulls.now)
+        (column_from column.now) (lent views2.now bytes2.now starts2.now lens2.now nulls2.now)
         (column_from column2.now)) }
 {
     let c = numbers::column_of(column);
     let d = numbers::column_of(column2);
-    told_same(comparison::same_column(
-        views, bytes, starts, lens, nulls, c, views2, bytes2, starts2, lens2, nulls2, d,
-    ))
+    let l = Buffers {
+        views,
+        bytes,
+        starts,
+        lens,
+        nulls,
+    };
+    let m = Buffers {
+        views: views2,
+        bytes: bytes2,
+        starts: starts2,
+        lens: lens2,
+        nulls: nulls2,
+    };
+    told_same(comparison::same_column(l, c, m, d))
 }
 
-pub fn told_place(l: Located) -> Place
+pub fn told_place(l: Result<Spot, Refusal>) -> Place
     ensures { result ≡ place_told l }
 {
     match l {
-        Located::At(s) => return numbers::place_of(s),
-        Located::Refused(r) => return Place {
-            refused: bounds::number(r) as u64,
+        Ok(s) => numbers::place_of(s),
+        Err(r) => Place {
+            refused: r.number() as u64,
             buffer: 0,
             offset: 0,
             len: 0,
@@ -188,8 +219,17 @@ pub fn tambuyeel_value(
     column: &[usize; 5],
     row: usize,
 ) -> Place
-    ensures { result ≡ place_at (lent_of views.entry bytes.entry starts.entry lens.entry nulls.entry) (column_from column.now) row }
+    ensures { result ≡ place_at (lent views.now bytes.now starts.now lens.now nulls.now) (column_from column.now) row }
 {
-    let c = numbers::column_of(column);
-    told_place(reading::locate(views, bytes, starts, lens, nulls, c, row))
+    told_place(reading::locate(
+        Buffers {
+            views,
+            bytes,
+            starts,
+            lens,
+            nulls,
+        },
+        numbers::column_of(column),
+        row,
+    ))
 }

@@ -1,60 +1,48 @@
 // A row's prefix, suffix, length and null bit, the nulls of a run, slices and totals, for C and Rust.
 ghost use Rattle.std.specs.Prelude.{◌≡◌};
-ghost use Rattle.column.specs.Lent.{lent_of};
+ghost use Rattle.column.specs.Lent.{lent};
 ghost use Rattle.reading.specs.Reading as spec;
 ghost use Rattle.numbers.specs.Numbers.{column_from};
 ghost use Rattle.exports.specs.Exported.{place_at};
 ghost use Rattle.exports.specs.Parts.{number_told, bit_told, slice_told, prefix_place, suffix_place};
 
 use crate::Run;
+use bounds::Refusal;
+use column::{Buffers, Column};
 use numbers::{Counted, Place};
-use reading::{Bit, Number, Sliced};
 
-fn told_number(n: Number) -> Counted
+fn told_number(n: Result<usize, Refusal>) -> Counted
     ensures { result ≡ number_told n }
 {
     match n {
-        Number::Is(x) => return Counted {
+        Ok(x) => Counted {
             refused: 0,
             number: x,
         },
-        Number::Refused(r) => return Counted {
-            refused: bounds::number(r) as u64,
+        Err(r) => Counted {
+            refused: r.number() as u64,
             number: 0,
         },
     }
 }
 
-fn told_bit(b: Bit) -> Counted
+fn told_bit(b: Result<bool, Refusal>) -> Counted
     ensures { result ≡ bit_told b }
 {
-    match b {
-        Bit::Null => return Counted {
-            refused: 0,
-            number: 0,
-        },
-        Bit::Valid => return Counted {
-            refused: 0,
-            number: 1,
-        },
-        Bit::Refused(r) => return Counted {
-            refused: bounds::number(r) as u64,
-            number: 0,
-        },
-    }
+    told_number(b.map(usize::from))
 }
 
-fn told_slice(s: Sliced) -> Run
+fn told_slice(s: Result<Column, Refusal>) -> Run
     ensures { result ≡ slice_told s }
 {
     match s {
-        Sliced::Is(c) => return Run {
+        Ok(c) => Run {
             refused: 0,
             first: c.first,
             rows: c.rows,
         },
-        Sliced::Refused(r) => return Run {
-            refused: bounds::number(r) as u64,
+        Err(r) => Run {
+            refused: r.number() as u64,
             first: 0,
             rows: 0,
         },
@@ -71,15 +59,17 @@ pub fn tambuyeel_length(
     column: &[usize; 5],
     row: usize,
 ) -> Counted
-    ensures { result ≡ number_told (spec.length_at (lent_of views.entry bytes.entry starts.entry lens.entry nulls.entry)
+    ensures { result ≡ number_told (spec.length_at (lent views.now bytes.now starts.now lens.now nulls.now)
         (column_from column.now) row) }
 {
     told_number(reading::length(
-        views,
-        bytes,
-        starts,
-        lens,
-        nulls,
+        Buffers {
+            views,
+            bytes,
+            starts,
+            lens,
+            nulls,
+        },
         numbers::column_of(column),
         row,
     ))
@@ -95,15 +85,17 @@ pub fn tambuyeel_null_bit(
     column: &[usize; 5],
     row: usize,
 ) -> Counted
-    ensures { result ≡ bit_told (spec.bit_of (lent_of views.entry bytes.entry starts.entry lens.entry nulls.entry)
+    ensures { result ≡ bit_told (spec.bit_of (lent views.now bytes.now starts.now lens.now nulls.now)
         (column_from column.now) row) }
 {
     told_bit(reading::null_bit(
-        views,
-        bytes,
-        starts,
-        lens,
-        nulls,
+        Buffers {
+            views,
+            bytes,
+            starts,
+            lens,
+            nulls,
+        },
         numbers::column_of(column),
         row,
     ))
@@ -120,15 +112,17 @@ pub fn tambuyeel_null_run(
     start: usize,
     count: usize,
 ) -> Counted
-    ensures { result ≡ number_told (spec.null_run (lent_of views.entry bytes.entry starts.entry lens.entry nulls.entry)
+    ensures { result ≡ number_told (spec.null_run (lent views.now bytes.now starts.now lens.now nulls.now)
         (column_from column.now) start count) }
 {
     told_number(reading::null_run(
-        views,
-        bytes,
-        starts,
-        lens,
-        nulls,
+        Buffers {
+            views,
+            bytes,
+            starts,
+            lens,
+            nulls,
+        },
         numbers::column_of(column),
         start,
         count,
@@ -146,15 +140,17 @@ pub fn tambuyeel_slice(
     start: usize,
     count: usize,
 ) -> Run
-    ensures { result ≡ slice_told (spec.slice (lent_of views.entry bytes.entry starts.entry lens.entry nulls.entry)
+    ensures { result ≡ slice_told (spec.slice (lent views.now bytes.now starts.now lens.now nulls.now)
         (column_from column.now) start count) }
 {
     told_slice(reading::slice(
-        views,
-        bytes,
-        starts,
-        lens,
-        nulls,
+        Buffers {
+            views,
+            bytes,
+            starts,
+            lens,
+            nulls,
+        },
         numbers::column_of(column),
         start,
         count,
@@ -170,15 +166,17 @@ pub fn tambuyeel_total_bytes_len(
     nulls: &[u8],
     column: &[usize; 5],
 ) -> Counted
-    ensures { result ≡ number_told (spec.total_bytes_len (lent_of views.entry bytes.entry starts.entry lens.entry nulls.entry)
+    ensures { result ≡ number_told (spec.total_bytes_len (lent views.now bytes.now starts.now lens.now nulls.now)
         (column_from column.now)) }
 {
     told_number(reading::total_bytes_len(
-        views,
-        bytes,
-        starts,
-        lens,
-        nulls,
+        Buffers {
+            views,
+            bytes,
+            starts,
+            lens,
+            nulls,
+        },
         numbers::column_of(column),
     ))
 }
@@ -192,15 +190,17 @@ pub fn tambuyeel_total_buffer_bytes_used(
     nulls: &[u8],
     column: &[usize; 5],
 ) -> Counted
-    ensures { result ≡ number_told (spec.total_buffer_bytes_used (lent_of views.entry bytes.entry starts.entry lens.entry nulls.entry)
+    ensures { result ≡ number_told (spec.total_buffer_bytes_used (lent views.now bytes.now starts.now lens.now nulls.now)
         (column_from column.now)) }
 {
     told_number(reading::total_buffer_bytes_used(
-        views,
-        bytes,
-        starts,
-        lens,
-        nulls,
+        Buffers {
+            views,
+            bytes,
+            starts,
+            lens,
+            nulls,
+        },
         numbers::column_of(column),
     ))
 }
@@ -216,25 +216,12 @@ pub fn tambuyeel_prefix(
     row: usize,
     n: usize,
 ) -> Place
-    ensures { result ≡ prefix_place n (place_at (lent_of views.entry bytes.entry starts.entry lens.entry nulls.entry)
+    ensures { result ≡ prefix_place n (place_at (lent views.now bytes.now starts.now lens.now nulls.now)
         (column_from column.now) row) }
 {
-    let c = numbers::column_of(column);
-    let p = crate::told_place(reading::locate(views, bytes, starts, lens, nulls, c, row));
-    if p.len < n {
-        return Place {
-            refused: p.refused,
-            buffer: p.buffer,
-            offset: p.offset,
-            len: 0,
-        };
-    }
-    Place {
-        refused: p.refused,
-        buffer: p.buffer,
-        offset: p.offset,
-        len: n,
-    }
+    let p = crate::tambuyeel_value(views, bytes, starts, lens, nulls, column, row);
+    let len = if p.len < n { 0 } else { n };
+    Place { len, ..p }
 }
 
 // Which bytes of which buffer the last n bytes of a row's value are; none where it has fewer.
@@ -248,23 +235,16 @@ pub fn tambuyeel_suffix(
     row: usize,
     n: usize,
 ) -> Place
-    ensures { result ≡ suffix_place n (place_at (lent_of views.entry bytes.entry starts.entry lens.entry nulls.entry)
+    ensures { result ≡ suffix_place n (place_at (lent views.now bytes.now starts.now lens.now nulls.now)
         (column_from column.now) row) }
 {
-    let c = numbers::column_of(column);
-    let p = crate::told_place(reading::locate(views, bytes, starts, lens, nulls, c, row));
+    let p = crate::tambuyeel_value(views, bytes, starts, lens, nulls, column, row);
     if p.len < n {
-        return Place {
-            refused: p.refused,
-            buffer: p.buffer,
-            offset: p.offset,
-            len: 0,
-        };
+        return Place { len: 0, ..p };
     }
     Place {
-        refused: p.refused,
-        buffer: p.buffer,
         offset: p.offset + (p.len - n),
         len: n,
+        ..p
     }
 }

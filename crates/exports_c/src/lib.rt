@@ -3,7 +3,7 @@
 
 ghost use Rattle.std.specs.Prelude.{◌≡◌};
 ghost use Rattle.bounds.specs.Refusals.{why_number};
-ghost use Rattle.column.specs.Lent.{lent_of};
+ghost use Rattle.column.specs.Lent.{lent};
 ghost use Rattle.reading.specs.Reading as spec;
 ghost use Rattle.reading.specs.Reading.{why_value};
 ghost use Rattle.validity.specs.Check.{why_invalid};
@@ -27,7 +27,7 @@ pub extern "C" fn tambuyeel_why_value(
     column: &[usize; 5],
     row: usize,
 ) -> u8
-    ensures { result ≡ why_number (why_value (lent_of views.entry bytes.entry starts.entry lens.entry nulls.entry)
+    ensures { result ≡ why_number (why_value (lent views.now bytes.now starts.now lens.now nulls.now)
         (column_from column.now) row) }
 {
     exports::tambuyeel_why_value(views, bytes, starts, lens, nulls, column, row)
@@ -43,7 +43,7 @@ pub extern "C" fn tambuyeel_check<'a>(
     nulls: &[u8],
     column: &[usize; 5],
 ) -> Told
-    ensures { result ≡ why_told (why_invalid (lent_of views.entry bytes.entry starts.entry lens.entry nulls.entry)
+    ensures { result ≡ why_told (why_invalid (lent views.now bytes.now starts.now lens.now nulls.now)
         (column_from column.now)) }
 {
     exports::tambuyeel_check(views, bytes, starts, lens, nulls, column)
@@ -67,8 +67,8 @@ pub extern "C" fn tambuyeel_compare<'a>(
     column2: &[usize; 5],
     j: usize,
 ) -> u64
-    ensures { result ≡ compared_number (compare_rows (lent_of views.entry bytes.entry starts.entry lens.entry nulls.entry)
-        (column_from column.now) i (lent_of views2.entry bytes2.entry starts2.entry lens2.entry nulls2.entry)
+    ensures { result ≡ compared_number (compare_rows (lent views.now bytes.now starts.now lens.now nulls.now)
+        (column_from column.now) i (lent views2.now bytes2.now starts2.now lens2.now nulls2.now)
         (column_from column2.now) j) }
 {
     exports::tambuyeel_compare(
@@ -93,8 +93,8 @@ pub extern "C" fn tambuyeel_same_column<'a>(
     nulls2: &[u8],
     column2: &[usize; 5],
 ) -> Told
-    ensures { result ≡ same_told (same_column (lent_of views.entry bytes.entry starts.entry lens.entry nulls.entry)
-        (column_from column.now) (lent_of views2.entry bytes2.entry starts2.entry lens2.entry nulls2.entry)
+    ensures { result ≡ same_told (same_column (lent views.now bytes.now starts.now lens.now nulls.now)
+        (column_from column.now) (lent views2.now bytes2.now starts2.now lens2.now nulls2.now)
         (column_from column2.now)) }
 {
     exports::tambuyeel_same_column(
@@ -113,7 +113,7 @@ pub extern "C" fn tambuyeel_value(
     column: &[usize; 5],
     row: usize,
 ) -> Place
-    ensures { result ≡ place_at (lent_of views.entry bytes.entry starts.entry lens.entry nulls.entry) (column_from column.now) row }
+    ensures { result ≡ place_at (lent views.now bytes.now starts.now lens.now nulls.now) (column_from column.now) row }
 {
     exports::tambuyeel_value(views, bytes, starts, lens, nulls, column, row)
 }
@@ -129,7 +129,7 @@ pub extern "C" fn tambuyeel_length(
     column: &[usize; 5],
     row: usize,
 ) -> Counted
-    ensures { result ≡ number_told (spec.length_at (lent_of views.entry bytes.entry starts.entry lens.entry nulls.entry)
+    ensures { result ≡ number_told (spec.length_at (lent views.now bytes.now starts.now lens.now nulls.now)
         (column_from column.now) row) }
 {
     exports::parts::tambuyeel_length(views, bytes, starts, lens, nulls, column, row)
@@ -146,7 +146,7 @@ pub extern "C" fn tambuyeel_null_bit(
     column: &[usize; 5],
     row: usize,
 ) -> Counted
-    ensures { result ≡ bit_told (spec.bit_of (lent_of views.entry bytes.entry starts.entry lens.entry nulls.entry)
+    ensures { result ≡ bit_told (spec.bit_of (lent views.now bytes.now starts.now lens.now nulls.now)
         (column_from column.now) row) }
 {
     exports::parts::tambuyeel_null_bit(views, bytes, starts, lens, nulls, column, row)
@@ -164,7 +164,7 @@ pub extern "C" fn tambuyeel_null_run(
     start: usize,
     count: usize,
 ) -> Counted
-    ensures { result ≡ number_told (spec.null_run (lent_of views.entry bytes.entry starts.entry lens.entry nulls.entry)
+    ensures { result ≡ number_told (spec.null_run (lent views.now bytes.now starts.now lens.now nulls.now)
         (column_from column.now) start count) }
 {
     exports::parts::tambuyeel_null_run(views, bytes, starts, lens, nulls, column, start, count)
@@ -182,7 +182,7 @@ pub extern "C" fn tambuyeel_slice(
     start: usize,
     count: usize,
 ) -> Run
-    ensures { result ≡ slice_told (spec.slice (lent_of views.entry bytes.entry starts.entry lens.entry nulls.entry)
+    ensures { result ≡ slice_told (spec.slice (lent views.now bytes.now starts.now lens.now nulls.now)
         (column_from column.now) start count) }
 {
     exports::parts::tambuyeel_slice(views, bytes, starts, lens, nulls, column, start, count)
@@ -198,7 +198,7 @@ pub extern "C" fn tambuyeel_total_bytes_len(
     nulls: &[u8],
     column: &[usize; 5],
 ) -> Counted
-    ensures { result ≡ number_told (spec.total_bytes_len (lent_of views.entry bytes.entry starts.entry lens.entry nulls.entry)
+    ensures { result ≡ number_told (spec.total_bytes_len (lent views.now bytes.now starts.now lens.now nulls.now)
         (column_from column.now)) }
 {
     exports::parts::tambuyeel_total_bytes_len(views, bytes, starts, lens, nulls, column)
@@ -214,7 +214,7 @@ pub extern "C" fn tambuyeel_total_buffer_bytes_used(
     nulls: &[u8],
     column: &[usize; 5],
 ) -> Counted
-    ensures { result ≡ number_told (spec.total_buffer_bytes_used (lent_of views.entry bytes.entry starts.entry lens.entry nulls.entry)
+    ensures { result ≡ number_told (spec.total_buffer_bytes_used (lent views.now bytes.now starts.now lens.now nulls.now)
         (column_from column.now)) }
 {
     exports::parts::tambuyeel_total_buffer_bytes_used(views, bytes, starts, lens, nulls, column)
@@ -232,7 +232,7 @@ pub extern "C" fn tambuyeel_prefix(
     row: usize,
     n: usize,
 ) -> Place
-    ensures { result ≡ prefix_place n (place_at (lent_of views.entry bytes.entry starts.entry lens.entry nulls.entry)
+    ensures { result ≡ prefix_place n (place_at (lent views.now bytes.now starts.now lens.now nulls.now)
         (column_from column.now) row) }
 {
     exports::parts::tambuyeel_prefix(views, bytes, starts, lens, nulls, column, row, n)
@@ -250,7 +250,7 @@ pub extern "C" fn tambuyeel_suffix(
     row: usize,
     n: usize,
 ) -> Place
-    ensures { result ≡ suffix_place n (place_at (lent_of views.entry bytes.entry starts.entry lens.entry nulls.entry)
+    ensures { result ≡ suffix_place n (place_at (lent views.now bytes.now starts.now lens.now nulls.now)
         (column_from column.now) row) }
 {
     exports::parts::tambuyeel_suffix(views, bytes, starts, lens, nulls, column, row, n)

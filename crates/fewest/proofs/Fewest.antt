@@ -10,9 +10,7 @@ use denote.Triple.Clauses.{AtExit}
 use borrow.Fn.Kinds.{Dens, res_t, ended_of}
 use Rattle.compaction.proofs.compact.Kinds as compact-kinds
 use Rattle.compaction.proofs.compact.Reads as compact
-use Rattle.bounds.specs.Refusals.{if_accepted, is_accepted}
-use Rattle.bounds.specs.declared.Why.{Why}
-use Rattle.bounds.specs.declared.Why.TheVariants.{Accepted}
+use Rattle.bounds.specs.Refusals.{if_accepted, is_accepted, accepted, Why}
 use Rattle.views.specs.View.{length_of}
 use Rattle.column.specs.declared.Block.{Block}
 use Rattle.column.specs.declared.Column.{Column}
@@ -34,7 +32,7 @@ use Rattle.fewest.proofs.Owned.{long-lens, own-lawful, own-count}
 
 -- ---- what compaction writes, by the definitions
 
-module _ (most : ℕ) (l : Lent) (c : Column) (out : Lent) (a : why_compact most l c out ≡ Accepted) where
+module _ (most : ℕ) (l : Lent) (c : Column) (out : Lent) (a : why_compact most l c out ≡ accepted) where
   abbrev new : Lent
   new = compacted most l c out
 
@@ -62,8 +60,8 @@ module _ (most : ℕ) (l : Lent) (c : Column) (out : Lent) (a : why_compact most
 -- ---- what the calls answer
 
 module _ (most : ℕ) (l : Lent) (c : Column) (out : Lent) (r : Outcome) (vs bs : List ℕ) (t : List Block) (ms : List ℕ)
-    (p : Compacts most l c out r vs bs t ms) (e : r.why ≡ Accepted) where
-  why-records : why_compact most l c out ≡ Accepted
+    (p : Compacts most l c out r vs bs t ms) (e : r.why ≡ accepted) where
+  why-records : why_compact most l c out ≡ accepted
   unfolding compact_of
   why-records = sym (ap (λ (o : Outcome). o.why) p.answer) ∙ e
 
@@ -93,8 +91,8 @@ no-fewer =
     }
 
 -- of the function `compact`, by what its own `ensures` says of an accepted answer and of the slices at exit
-pub compact-fewest : (κs : Lfts 9) (a : Dens κs compact-kinds.ps) (z : (res_t compact-kinds.r κs).Denot)
-    (s : AtExit (ended_of 9 compact-kinds.ps compact-kinds.r) κs) → compact.Post κs a z s → z.why ≡ Accepted
-    → Fewest a.1.1.1.1.1.1.0 (lent_as (compact-of κs a)) a.1.1.1.1.1.0 (lent_as (compact-out κs s)) z.column
+pub compact-fewest : (κs : Lfts 7) (a : Dens κs compact-kinds.ps) (z : (res_t compact-kinds.r κs).Denot)
+    (s : AtExit (ended_of 7 compact-kinds.ps compact-kinds.r) κs) → compact.Post κs a z s → z.why ≡ accepted
+    → Fewest a.1.1.0 (lent_as (compact-of κs a)) a.1.0 (lent_as (compact-out κs s)) z.column
 compact-fewest κs a z s p e =
-    no-fewer.slices a.1.1.1.1.1.1.0 (compact-of κs a) a.1.1.1.1.1.0 (compact-in κs a) z (compact-out κs s) (compact-answers κs a z s p e)
+    no-fewer.slices a.1.1.0 (compact-of κs a) a.1.0 (compact-in κs a) z (compact-out κs s) (compact-answers κs a z s p e)

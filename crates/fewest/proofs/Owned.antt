@@ -1,5 +1,6 @@
 -- The cut that a compacted column makes is the walk's, with its blocks as the values in them: it is lawful, and has the blocks that aren't empty. Assumes
 -- nothing.
+use Rattle.bounds.specs.Refusals.{accepted}
 use mathlib.Core.Path.{◌≡◌, refl, sym, ap, ◌∙◌}
 use mathlib.Core.Bool.{Bool, true, false, not, true≢false}
 use mathlib.Core.List.{List, [], ◌∷◌, ◌++◌, map, map-append, map-map, append-nil, flatten}
@@ -8,7 +9,6 @@ use native.Mathlib.Omega.{arith}
 use lib.Dec.{ltb}
 use lib.ListN.{length, get_or, length-append, length-map}
 use Rattle.basis.specs.Pick.{pick}
-use Rattle.bounds.specs.declared.Why.TheVariants.{Accepted}
 use Rattle.views.specs.View.{is_short, length_of}
 use Rattle.column.specs.declared.Column.{Column}
 use Rattle.column.specs.Lent.{Lent}
@@ -124,7 +124,7 @@ into-same f g value value' k (suc n) h j =
     by true = rw (j n (omega arith))
     by false = refl
 
-module _ (most : ℕ) (l : Lent) (c : Column) (out : Lent) (a : why_compact most l c out ≡ Accepted) where
+module _ (most : ℕ) (l : Lent) (c : Column) (out : Lent) (a : why_compact most l c out ≡ accepted) where
   abbrev new : Lent
   new = compacted most l c out
 

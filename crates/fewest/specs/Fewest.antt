@@ -1,6 +1,6 @@
 -- No fewer blocks: what compaction answers has as few blocks that aren't empty as any lawful cut of the long rows. Assumes nothing.
+use Rattle.bounds.specs.Refusals.{accepted}
 use Rattle.std.specs.Prelude.{◌≡◌, List, map, ℕ, ◌≤◌, ◌<◌, ltb, length, take}
-use Rattle.bounds.specs.declared.Why.TheVariants.{Accepted}
 use Rattle.column.specs.declared.Block.{Block}
 use Rattle.column.specs.declared.Column.{Column}
 use Rattle.column.specs.Lent.{Lent, buffers, block_at}
@@ -39,5 +39,5 @@ pub record NoFewer : Type 0 where
   pub slices : (most : ℕ) (b : Buffers) (c : Column) (o : Buffers) (r : Outcome) (o' : Buffers) → CompactMet most b c o r o'
       → Fewest most (lent_as b) c (lent_as o') r.column
   pub records : (most : ℕ) (l : Lent) (c : Column) (out : Lent) (r : Outcome) (vs bs : List ℕ) (t : List Block) (ms : List ℕ)
-      → Compacts most l c out r vs bs t ms → r.why ≡ Accepted
+      → Compacts most l c out r vs bs t ms → r.why ≡ accepted
       → Fewest most l c (buffers vs bs t ms) r.column

@@ -11,7 +11,7 @@ use denote.Bor.{Bor}
 use denote.MutBor.{MutBor}
 use Prim.Native.Nat.{ℕ}
 use Rattle.appending.specs.declared.Placed.{Placed}
-use Rattle.bounds.specs.declared.Why.{Why}
+use Rattle.bounds.specs.Refusals.{Why}
 use Rattle.builder.specs.Finish.{copied, finish_column, finished, why_finish}
 use Rattle.builder.specs.Get.{get_value, why_get}
 use Rattle.builder.specs.Others.{block_number, put_block, why_block}

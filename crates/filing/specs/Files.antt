@@ -1,7 +1,7 @@
 -- What a call says over a table of records: of its answer, and of each buffer that it is lent. Assumes nothing.
 use Rattle.std.specs.Prelude.{◌≡◌, List, ℕ, set}
 use Rattle.basis.specs.Pick.{pick}
-use Rattle.bounds.specs.declared.Why.{Why}
+use Rattle.bounds.specs.Refusals.{Why}
 use Rattle.column.specs.declared.Block.{Block}
 use Rattle.column.specs.Lent.{buffers, block}
 use Rattle.builder.specs.declared.State.{State}

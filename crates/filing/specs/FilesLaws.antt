@@ -1,10 +1,7 @@
 -- A table as its two number slices, so that what is known of the calls over these says it over records too. Assumes nothing.
-use Rattle.std.specs.Prelude.{◌≡◌, refl, Bool, true, false, List, [], ◌∷◌, ℕ, zero, suc, length, set, replicate}
+use Rattle.std.specs.Prelude.{◌≡◌, refl, Bool, true, false, List, [], ◌∷◌, ℕ, zero, suc, length, set, replicate, Ok, Err}
 use Rattle.std.proofs.Common.{sym, ap, subst, ◌∙◌, arith, eq-eqb, ne_eqb}
-use Rattle.std.proofs.Math.Seq.{set_out}
-use Rattle.bounds.specs.Refusals.{is_accepted}
-use Rattle.bounds.specs.declared.Why.{Why}
-use Rattle.bounds.specs.declared.Why.TheVariants.{Accepted, Refused}
+use Rattle.bounds.specs.Refusals.{is_accepted, accepted, Why}
 use Rattle.column.specs.declared.Block.{Block}
 use Rattle.column.specs.Lent.{block, table_of, lent}
 use Rattle.builder.specs.declared.State.{State}
@@ -67,22 +64,18 @@ module _ (why : Builder → Why) (put : Builder → Builder) (s : State) (vs bs 
   table-no w e h = go w h e
     where
       go : (w : Why) → is_accepted w ≡ false → w ≡ why (held s vs bs ss ns ms ps) → table_of ss ns ≡ (left why put (held s vs bs ss ns ms ps)).lent.table
-      go Accepted k d = absurd (let z : ◌≡◌ {A = ℕ} 0 1 = cc in omega arith)
-      go (Refused z) k d = rw (← d)
+      go (Ok _) k d = absurd (let z : ◌≡◌ {A = ℕ} 0 1 = cc in omega arith)
+      go (Err z) k d = rw (← d)
 
-  pub table-yes : (t' : List Block) → why (held s vs bs ss ns ms ps) ≡ Accepted → t' ≡ (put (held s vs bs ss ns ms ps)).lent.table
+  pub table-yes : (t' : List Block) → why (held s vs bs ss ns ms ps) ≡ accepted → t' ≡ (put (held s vs bs ss ns ms ps)).lent.table
       → t' ≡ (left why put (held s vs bs ss ns ms ps)).lent.table
   table-yes t' e h = rw e h
 
--- a record past the end is written nowhere
-pub set-none : (n : ℕ) (b : Block) (t : List Block) → n ≡ length t → set t n b ≡ t
-set-none n b t e = set_out t n b (omega (arith, e))
-
 -- the open block's record
 module _ (s : State) (t : List Block) where
-  pub open_none : (n : ℕ) (b : Block) → s.fill ≡ 0 → n ≡ length t → set t n b ≡ open_table s t
+  pub open_same : s.fill ≡ 0 → t ≡ open_table s t
   unfolding open_table
-  open_none n b h e = set-none n b t e ∙ rw (eq-eqb s.fill 0 h)
+  open_same h = rw (eq-eqb s.fill 0 h)
 
   pub open-some : (s.fill ≡ 0 → ⊥) → set t s.blocks (block s.base s.fill) ≡ open_table s t
   unfolding open_table

@@ -1,5 +1,5 @@
 -- A block added over a table of records, from what its parts leave. Assumes nothing.
-use Rattle.std.specs.Prelude.{◌≡◌, true, false, not, List, ℕ, ◌≤◌, ◌<◌, ltb, length}
+use Rattle.std.specs.Prelude.{◌≡◌, true, false, not, List, ℕ, ◌≤◌, ◌<◌, ltb, length, Err}
 use Rattle.std.proofs.Math.Path.{refl}
 use Rattle.std.proofs.Common.{ap, ◌∙◌, arith}
 use borrow.Author.Tests.{lt-ltb, le-ltb, leb-true}
@@ -7,10 +7,8 @@ use Rattle.std.proofs.Math.Dec.{leb}
 use Rattle.std.proofs.Math.ListN.{set}
 use Rattle.std.proofs.Math.Seq.{paste}
 use Rattle.bounds.specs.Bounds.{block_limit, byte_limit}
-use Rattle.bounds.specs.Refusals.{refuse, is_accepted}
+use Rattle.bounds.specs.Refusals.{refuse, is_accepted, accepted, Why}
 use Rattle.bounds.specs.declared.Refusal.TheVariants.{Fit, TooLong}
-use Rattle.bounds.specs.declared.Why.{Why}
-use Rattle.bounds.specs.declared.Why.TheVariants.{Accepted, Refused}
 use Rattle.column.specs.declared.Block.{Block}
 use Rattle.column.specs.Lent.{block, table_of}
 use Rattle.column.proofs.FitLaws.{and_left, and_right}
@@ -23,7 +21,7 @@ use Rattle.builder.specs.Does.{answer}
 use Rattle.appending.specs.Laying.{block_more}
 use Rattle.appending.specs.BlockLaws.{Blocked, blocked, does-not-block, does-block}
 use Rattle.filing.specs.Files.{Files, filed, open_table}
-use Rattle.filing.specs.FilesLaws.{over-tables, blank, blank-length, blocks-room, files-of, table-no, table-yes, set-none, recorded-table, fits-by, table-length}
+use Rattle.filing.specs.FilesLaws.{over-tables, blank, blank-length, blocks-room, files-of, table-no, table-yes, recorded-table, fits-by}
 
 -- a block's verdict, by the lengths of what is lent and the count of the records
 unfoldable pub block_by : State → ℕ → ℕ → ℕ → ℕ → ℕ → ℕ → Why
@@ -35,12 +33,12 @@ module _ (s : State) (views bytes count nulls places n : ℕ) where
   abbrev fits : Type 0
   fits = fits_rooms s (room_of_rows s.merging views nulls places) (room_of_blocks count count) (room_of_bytes bytes) ≡ true
 
-  pub block_fit : fits_rooms s (room_of_rows s.merging views nulls places) (room_of_blocks count count) (room_of_bytes bytes) ≡ false → Refused Fit
+  pub block_fit : fits_rooms s (room_of_rows s.merging views nulls places) (room_of_blocks count count) (room_of_bytes bytes) ≡ false → Err Fit
       ≡ block_by s views bytes count nulls places n
   unfolding block_by refuse
   block_fit h = rw h
 
-  pub block-long : fits → byte_limit < n → Refused TooLong ≡ block_by s views bytes count nulls places n
+  pub block-long : fits → byte_limit < n → Err TooLong ≡ block_by s views bytes count nulls places n
   unfolding block_by refuse
   block-long h g = rw (h, lt-ltb byte_limit n g)
 
@@ -69,36 +67,35 @@ module _ (s : State) (vs bs ms ps x : List ℕ) (n : ℕ) (w : Why) (ew : w ≡ 
   pub laid-room : is_accepted w ≡ true → Blocked s vs bs (blank n) (blank n) ms ps x
   laid-room h = blocked s vs bs (blank n) (blank n) ms ps x (rw (verdict (blank n) (blank n) (blank-length n) (blank-length n)) at h)
 
-  pub laid-no : is_accepted w ≡ false → (b c : Block) → (t : List Block) → n ≡ length t
-      → Files (λ d. why_block d x) (put_block x) s vs bs t ms ps (answer w s) vs bs (set (set t n b) n c) ms ps × (0 ≡ block_number (filed s vs bs t ms ps) x)
-  laid-no h b c =
-      over-tables (λ t. Files (λ d. why_block d x) (put_block x) s vs bs t ms ps (answer w s) vs bs (set (set t n b) n c) ms ps
+  pub laid-no : is_accepted w ≡ false → (t : List Block) → n ≡ length t
+      → Files (λ d. why_block d x) (put_block x) s vs bs t ms ps (answer w s) vs bs t ms ps × (0 ≡ block_number (filed s vs bs t ms ps) x)
+  laid-no h =
+      over-tables (λ t. Files (λ d. why_block d x) (put_block x) s vs bs t ms ps (answer w s) vs bs t ms ps
       × (0 ≡ block_number (filed s vs bs t ms ps) x)) n (λ ss ns es en.
       let e = verdict ss ns es en in
-      let d = does-not-block s vs bs ss ns ms ps x w e h in
-      let l = table-length n ss ns es en in
-      let same : set (table_of ss ns) n b ≡ table_of ss ns = set-none n b (table_of ss ns) l in (
-        files-of (λ d. why_block d x) (put_block x) s vs bs ss ns ms ps (set (set (table_of ss ns) n b) n c) d.0
-            (ap (λ (z : List Block). set z n c) same ∙ set-none n c (table_of ss ns) l ∙ table-no (λ d. why_block d x) (put_block x) s vs bs ss ns ms ps w e h),
+      let d = does-not-block s vs bs ss ns ms ps x w e h in (
+        files-of (λ d. why_block d x) (put_block x) s vs bs ss ns ms ps (table_of ss ns) d.0
+            (table-no (λ d. why_block d x) (put_block x) s vs bs ss ns ms ps w e h),
         d.1,
       ))
 
-  pub laid-yes : (t : State) {u : State} {bs' : List ℕ} (k : ℕ) (b : Block) → is_accepted w ≡ true → t ≡ closed s → u ≡ block_more (length x) t
+  -- z₁ is the table with the open block's record
+  pub laid-yes : (t : State) {u : State} {bs' : List ℕ} → is_accepted w ≡ true → t ≡ closed s → u ≡ block_more (length x) t
       → bs' ≡ paste bs t.base x (length x)
-      → ((z : List Block) → n ≡ length z → set z k b ≡ open_table s z) → (z : List Block) → n ≡ length z
-      → Files (λ d. why_block d x) (put_block x) s vs bs z ms ps (answer Accepted u) vs bs' (set (set z k b) t.blocks (block t.base (length x))) ms ps
+      → (z : List Block) → n ≡ length z → (z₁ z₂ : List Block) → z₁ ≡ open_table s z → z₂ ≡ set z₁ t.blocks (block t.base (length x))
+      → Files (λ d. why_block d x) (put_block x) s vs bs z ms ps (answer accepted u) vs bs' z₂ ms ps
       × (t.blocks ≡ block_number (filed s vs bs z ms ps) x)
   unfolding put_block lay_block complete closed
-  laid-yes t {u} {bs'} k b h et eu eb ek =
-      over-tables (λ z. Files (λ d. why_block d x) (put_block x) s vs bs z ms ps (answer Accepted u) vs bs' (set (set z k b) t.blocks
-      (block t.base (length x))) ms ps × (t.blocks ≡ block_number (filed s vs bs z ms ps) x)) n (λ ss ns es en.
+  laid-yes t {u} {bs'} h et eu eb =
+      over-tables (λ z. (z₁ z₂ : List Block) → z₁ ≡ open_table s z → z₂ ≡ set z₁ t.blocks (block t.base (length x))
+      → Files (λ d. why_block d x) (put_block x) s vs bs z ms ps (answer accepted u) vs bs' z₂ ms ps
+      × (t.blocks ≡ block_number (filed s vs bs z ms ps) x)) n (λ ss ns es en z₁ z₂ e₁ e₂.
       let e = verdict ss ns es en in
       let d = does-block s vs bs ss ns ms ps x w t e h et refl refl eu eb refl refl in
-      let first : set (table_of ss ns) k b ≡ (recorded s (held s vs bs ss ns ms ps).lent).table = ek (table_of ss ns) (table-length n ss ns es en)
-      ∙ recorded-table s vs bs ss ns ms in (
-        files-of (λ d. why_block d x) (put_block x) s vs bs ss ns ms ps (set (set (table_of ss ns) k b) t.blocks (block t.base (length x))) d.0
-            (table-yes (λ d. why_block d x) (put_block x) s vs bs ss ns ms ps (set (set (table_of ss ns) k b) t.blocks (block t.base (length x)))
+      let first : z₁ ≡ (recorded s (held s vs bs ss ns ms ps).lent).table = e₁ ∙ recorded-table s vs bs ss ns ms in (
+        files-of (λ d. why_block d x) (put_block x) s vs bs ss ns ms ps z₂ d.0
+            (table-yes (λ d. why_block d x) (put_block x) s vs bs ss ns ms ps z₂
             (is-accepted w (why_block (held s vs bs ss ns ms ps) x) e h)
-            (λ i. set (first i) (et i).blocks (block (et i).base (length x)))),
+            (e₂ ∙ λ i. set (first i) (et i).blocks (block (et i).base (length x)))),
         d.1,
       ))

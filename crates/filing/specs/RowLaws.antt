@@ -1,13 +1,11 @@
 -- The question and the value of a row over a table of records, by the record of the block that the row's view names. Assumes nothing.
-use Rattle.std.specs.Prelude.{◌≡◌, refl, true, false, ℕ, zero, suc, ◌+◌, ◌*◌, ◌≤◌, ◌<◌, length, get_or}
+use Rattle.std.specs.Prelude.{◌≡◌, refl, true, false, ℕ, zero, suc, ◌+◌, ◌*◌, ◌≤◌, ◌<◌, length, get_or, Err}
 use Rattle.std.proofs.Common.{sym, ◌∙◌, add_comm, arith}
 use Rattle.std.proofs.Math.Path.{ap}
 use mathlib.Core.List.{List, [], ◌∷◌}
 use Rattle.basis.specs.Pick.{if_lt}
-use Rattle.bounds.specs.Refusals.{is_accepted, accepted-no}
+use Rattle.bounds.specs.Refusals.{is_accepted, accepted-no, accepted, Why}
 use Rattle.bounds.specs.declared.Refusal.TheVariants.{Fit, Row, BadView}
-use Rattle.bounds.specs.declared.Why.{Why}
-use Rattle.bounds.specs.declared.Why.TheVariants.{Accepted, Refused}
 use Rattle.views.specs.View.{view_at, block_of}
 use Rattle.column.specs.declared.Block.{Block}
 use Rattle.column.specs.Lent.{block, buffers, data_room, table_of}
@@ -58,13 +56,13 @@ module _ (s : State) (vs bs : List ℕ) (r room k : ℕ) (b d : Block) (x : Spot
       (or-start s k b ss ns d.start es (nm k ek)) (or-size s k b ss ns d.len el (nm k ek)))
 
 module _ (s : State) (vs bs ms ps : List ℕ) (n r : ℕ) (b : Block) where
-  pub why-fit : fits_by s vs bs ms ps n ≡ false → (t : List Block) → n ≡ length t → RowSees vs r b t → Refused Fit ≡ why_get (filed s vs bs t ms ps) r
-  why-fit h t e g = over-tables (λ t. Refused Fit ≡ why_get (filed s vs bs t ms ps) r) n (λ ss ns es en. get_fit s vs bs ss ns ms ps r
+  pub why-fit : fits_by s vs bs ms ps n ≡ false → (t : List Block) → n ≡ length t → RowSees vs r b t → Err Fit ≡ why_get (filed s vs bs t ms ps) r
+  why-fit h t e g = over-tables (λ t. Err Fit ≡ why_get (filed s vs bs t ms ps) r) n (λ ss ns es en. get_fit s vs bs ss ns ms ps r
       (sym (fits-by s vs bs ms ps n ss ns es en) ∙ h)) t e
 
   module _ (fit : fits_by s vs bs ms ps n ≡ true) where
-    pub why-late : s.rows ≤ r → (t : List Block) → n ≡ length t → RowSees vs r b t → Refused Row ≡ why_get (filed s vs bs t ms ps) r
-    why-late h t e g = over-tables (λ t. Refused Row ≡ why_get (filed s vs bs t ms ps) r) n (λ ss ns es en. get-late s vs bs ss ns ms ps r
+    pub why-late : s.rows ≤ r → (t : List Block) → n ≡ length t → RowSees vs r b t → Err Row ≡ why_get (filed s vs bs t ms ps) r
+    why-late h t e g = over-tables (λ t. Err Row ≡ why_get (filed s vs bs t ms ps) r) n (λ ss ns es en. get-late s vs bs ss ns ms ps r
         (sym (fits-by s vs bs ms ps n ss ns es en) ∙ fit) h) t e
 
     module _ (there : r < s.rows) (x : Spot) (ex : (ss ns : List ℕ) → Ready s vs ss ns → RowNames vs r b ss ns → x ≡ spot_row s (bare vs bs ss ns) r) where
@@ -82,14 +80,14 @@ module _ (s : State) (vs bs ms ps : List ℕ) (n r : ℕ) (b : Block) where
           → is_inside (reach_by x) ≡ reachable (recorded s (bare vs bs ss ns)) (all_blocks s) (view_at vs r)
       reaches ss ns rd nm = row-reach s vs bs ss ns r x (ex ss ns rd nm)
 
-      pub why-bad : is_inside (reach_by x) ≡ false → (t : List Block) → n ≡ length t → RowSees vs r b t → Refused (BadView r) ≡ why_get (filed s vs bs t ms ps) r
+      pub why-bad : is_inside (reach_by x) ≡ false → (t : List Block) → n ≡ length t → RowSees vs r b t → Err (BadView r) ≡ why_get (filed s vs bs t ms ps) r
       why-bad h t e g =
-          over-tables (λ t. RowSees vs r b t → Refused (BadView r) ≡ why_get (filed s vs bs t ms ps) r) n (λ ss ns es en g.
+          over-tables (λ t. RowSees vs r b t → Err (BadView r) ≡ why_get (filed s vs bs t ms ps) r) n (λ ss ns es en g.
           let a = at-hand ss ns es en g in get-bad s vs bs ss ns ms ps r a.0 there (sym (reaches ss ns a.1 a.2) ∙ h)) t e g
 
-      pub why-fine : is_inside (reach_by x) ≡ true → (t : List Block) → n ≡ length t → RowSees vs r b t → Accepted ≡ why_get (filed s vs bs t ms ps) r
+      pub why-fine : is_inside (reach_by x) ≡ true → (t : List Block) → n ≡ length t → RowSees vs r b t → accepted ≡ why_get (filed s vs bs t ms ps) r
       why-fine h t e g =
-          over-tables (λ t. RowSees vs r b t → Accepted ≡ why_get (filed s vs bs t ms ps) r) n (λ ss ns es en g.
+          over-tables (λ t. RowSees vs r b t → accepted ≡ why_get (filed s vs bs t ms ps) r) n (λ ss ns es en g.
           let a = at-hand ss ns es en g in get-fine s vs bs ss ns ms ps r a.0 there (sym (reaches ss ns a.1 a.2) ∙ h)) t e g
 
       pub got-part : is_inside (reach_by x) ≡ true → (y : List ℕ) (v d q : ℕ × ℕ) → y ≡ bytes_at vs bs x → q ≡ points_to v d x
@@ -101,16 +99,16 @@ module _ (s : State) (vs bs ms ps : List ℕ) (n r : ℕ) (b : Block) where
           let z = sym (reaches ss ns a.1 a.2) ∙ h in
           let w = get-fine s vs bs ss ns ms ps r a.0 there z in
           let p = ex ss ns a.1 a.2 in (
-            value-yes s vs bs ss ns ms ps r Accepted y w refl (ey ∙ row-shown s vs bs ss ns r x p z),
-            points-yes s vs bs ss ns ms ps r Accepted v d q w refl (eq ∙ ap (points_to v d) p),
+            value-yes s vs bs ss ns ms ps r accepted y w refl (ey ∙ row-shown s vs bs ss ns r x p z),
+            points-yes s vs bs ss ns ms ps r accepted v d q w refl (eq ∙ ap (points_to v d) p),
           )) t e g
 
-  -- refused, the part is empty
-  pub got-none : (w : Why) (x : List ℕ) (v d q : ℕ × ℕ) → ((t : List Block) → n ≡ length t → RowSees vs r b t → w ≡ why_get (filed s vs bs t ms ps) r)
-      → is_accepted w ≡ false → x ≡ [] → q ≡ (v.0, 0 + v.1)
-      → (t : List Block) → n ≡ length t → RowSees vs r b t → (x ≡ get_value (filed s vs bs t ms ps) r) × (q ≡ get_points (filed s vs bs t ms ps) r v d)
+-- refused, the part is empty
+module _ (s : State) (vs bs : List ℕ) (t : List Block) (ms ps : List ℕ) (r : ℕ) where
+  pub got-none : (w : Why) (x : List ℕ) (v d q : ℕ × ℕ) → w ≡ why_get (filed s vs bs t ms ps) r → is_accepted w ≡ false → x ≡ [] → q ≡ (v.0, 0 + v.1)
+      → (x ≡ get_value (filed s vs bs t ms ps) r) × (q ≡ get_points (filed s vs bs t ms ps) r v d)
   unfolding get_value get_points
-  got-none w x v d q f h p k t e g = (
-    accepted-no (why_get (filed s vs bs t ms ps) r) w _ [] x (f t e g) h p,
-    accepted-no (why_get (filed s vs bs t ms ps) r) w _ (further v 0) q (f t e g) h (k ∙ ap (λ (j : ℕ). (v.0, j)) (add_comm 0 v.1)),
+  got-none w x v d q e h p k = (
+    accepted-no (why_get (filed s vs bs t ms ps) r) w _ [] x e h p,
+    accepted-no (why_get (filed s vs bs t ms ps) r) w _ (further v 0) q e h (k ∙ ap (λ (j : ℕ). (v.0, j)) (add_comm 0 v.1)),
   )

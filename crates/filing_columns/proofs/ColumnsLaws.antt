@@ -1,9 +1,13 @@
 -- A column over a table of records: its verdict, what an accepted one knows, what its parts leave, and its blocks laid one by one. Assumes nothing.
+use Rattle.std.specs.Prelude.{Ok, Err}
 use mathlib.Core.Path.{◌≡◌, refl, sym, ap, subst, ◌∙◌}
 use mathlib.Core.Logic.{by_cases}
 use mathlib.Core.Bool.{Bool, true, false}
 use mathlib.Core.List.{List, []}
 use Prim.Native.Nat.{ℕ, zero, suc, ◌+◌, ◌-◌, ◌*◌, ◌≤◌, ◌<◌}
+use native.Mathlib.Numerals.{add-one}
+use Rattle.std.specs.Prelude.{sum_by}
+use Rattle.std.proofs.lemmas.List.Sums.{sum_by_more}
 use native.Mathlib.Nat.{add-zero, add_assoc, not-suc-le-zero}
 use native.Mathlib.Decide.{ℕ_discrete}
 use native.Mathlib.Omega.{arith}
@@ -13,10 +17,8 @@ use lib.ListN.{length, set, get_or, take, drop, length-drop, length-set}
 use lib.Seq.{paste, length-paste, length-take-le}
 use Rattle.basis.specs.Pick.{pick, part-is}
 use Rattle.bounds.specs.Bounds.{row_limit, block_limit, byte_limit, byte-limit-is, block-limit-small}
-use Rattle.bounds.specs.Refusals.{refuse, is_accepted, if_accepted, accepted-both, accepted-yes, accepted-no}
+use Rattle.bounds.specs.Refusals.{refuse, is_accepted, if_accepted, accepted-both, accepted-no, accepted, Why}
 use Rattle.bounds.specs.declared.Refusal.TheVariants.{Fit, RowRoom}
-use Rattle.bounds.specs.declared.Why.{Why}
-use Rattle.bounds.specs.declared.Why.TheVariants.{Accepted, Refused}
 use Rattle.null_bits.specs.Bits.{count_nulls}
 use Rattle.null_bits.specs.Runs.{copy_column}
 use Rattle.views.specs.View.{view_at}
@@ -38,9 +40,8 @@ use Rattle.builder.specs.DoesLaws.{does-no}
 use Rattle.appending.specs.Laying.{column_more, end_from, put_data, put_records, put_from, lens_total, by_kind}
 use Rattle.appending.specs.ColumnLaws.{alone-gives, column-fit, column-no, column-full, column-room, Taken, taken, does-column, add-column, lay-blocks, rows_on, blocks_on, sizes-is, end_is}
 use Rattle.filing.specs.Files.{Files, filed, open_table}
-use Rattle.filing.specs.FilesLaws.{over-tables, blank, blank-length, blocks-room, files-of, table-no, table-yes, set-none, recorded-table, fits-by, table-length}
-use Rattle.filing_columns.specs.Columns.{Counts, Lays, SourceJudged, Sourced, ColumnRoomy, column_by, stays}
-use Rattle.filing_columns.specs.declared.Poured.{Poured}
+use Rattle.filing.specs.FilesLaws.{over-tables, blank, blank-length, blocks-room, files-of, table-no, table-yes, recorded-table, fits-by, table-length}
+use Rattle.filing_columns.specs.Columns.{Counts, Lays, SourceJudged, ColumnRoomy, column_by}
 
 -- ---- the sizes and the place of blocks, which no other buffer changes
 
@@ -89,42 +90,33 @@ module _ (s : State) (cv cb cn : List ℕ) (u : List Block) (c : Column) where
       let k = leb-true c.blocks (block_room from) (and_right (leb (c.first + c.rows) (row_room c.mapped from)) _ h) in
       omega arith
 
+  blocks-there : fits from c ≡ true → c.blocks ≤ length u
+  unfolding fits block_room
+  blocks-there h =
+      let k = leb-true c.blocks (block_room from) (and_right (leb (c.first + c.rows) (row_room c.mapped from)) _ h) in
+      omega arith
+
   rows_few : fits from c ≡ true → c.rows ≤ row_limit
   unfolding fits row_room
   rows_few h =
       let k = leb-true (c.first + c.rows) (row_room c.mapped from) (and_left (leb (c.first + c.rows) (row_room c.mapped from)) _ h) in
       omega arith
 
-  pub counts-source : (w : Why) (d : Column) (k : ℕ) → d ≡ by_kind s.kind c → w ≡ why_invalid from d → k ≡ if_accepted w c.blocks 0 → Counts u k
-  counts-source w d k ed ew ek = go w (ew ∙ ap (why_invalid from) ed) ek
-    where
-      go : (v : Why) → v ≡ why_invalid from (by_kind s.kind c) → k ≡ if_accepted v c.blocks 0 → Counts u k
-      go Accepted e i =
-          let g = source-gives Accepted e refl in
-          let f = blocks-few g.0 in
-          record { few = omega (arith, i, f); each = λ j h. let b = each_fits from c.blocks j g.1 (omega (arith, i, h)) in omega (arith, b) }
-      go (Refused z) e i = record { few = omega (arith, i); each = λ j h. absurd (omega (arith, i, h)) }
+  pub counts-source : (w : Why) (d : Column) → d ≡ by_kind s.kind c → w ≡ why_invalid from d → is_accepted w ≡ true
+      → (c.blocks ≤ length u) × Counts u c.blocks
+  counts-source w d ed ew h =
+      let g = source-gives w (ew ∙ ap (why_invalid from) ed) h in (
+        blocks-there g.0,
+        record { few = blocks-few g.0; each = λ j l. let b = each_fits from c.blocks j g.1 l in omega (arith, b) },
+      )
 
-  pub source_is : (w : Why) (d : Column) (k m : ℕ) → d ≡ by_kind s.kind c → w ≡ why_invalid from d → k ≡ if_accepted w c.blocks 0
-      → m ≡ sizes (buffers [] [] u []) k → SourceJudged s cv cb u cn c w m
-  source_is w d k m ed ew ek em =
-      record {
-        why = ew ∙ ap (why_invalid from) ed;
-        total = λ h. em ∙ ap (sizes (buffers [] [] u [])) (ek ∙ sym (accepted-yes w w c.blocks 0 c.blocks refl h refl))
-            ∙ sizes-same cv cb cn u c.blocks;
-      }
-
-  source-small : {w : Why} {m : ℕ} → SourceJudged s cv cb u cn c w m → is_accepted w ≡ true → (c.rows ≤ row_limit) × (c.blocks ≤ block_limit) ×
-      (m ≤ 16777216 * c.blocks)
-  source-small {w} {m} k h =
-      let g = source-gives w k.why h in
+  pub source-small : (w : Why) (d : Column) → d ≡ by_kind s.kind c → w ≡ why_invalid from d → is_accepted w ≡ true
+      → (c.rows ≤ row_limit) × (c.blocks ≤ block_limit) × (sizes (buffers [] [] u []) c.blocks ≤ 16777216 * c.blocks)
+  source-small w d ed ew h =
+      let g = source-gives w (ew ∙ ap (why_invalid from) ed) h in
       let i = sizes-most from c.blocks c.blocks g.1 (omega arith) in
-      let e = k.total h in
+      let e = sizes-same cv cb cn u c.blocks in
       (rows_few g.0, blocks-few g.0, omega (arith, e, i))
-
-pub sourced-small : (s : State) (cv cn : List ℕ) (c : Column) (w : Why) (m : ℕ) → Sourced s cv cn c w m → is_accepted w ≡ true
-    → (c.rows ≤ row_limit) × (c.blocks ≤ block_limit) × (m ≤ 16777216 * c.blocks)
-sourced-small s cv cn c w m k h = source-small s cv k.bytes cn k.table c k.source h
 
 -- ---- the verdict, test by test
 
@@ -132,7 +124,7 @@ module _ (s : State) (views bytes count nulls places : ℕ) (c : Column) (w : Wh
   abbrev fit : Bool
   fit = fits_rooms s (room_of_rows s.merging views nulls places) (room_of_blocks count count) (room_of_bytes bytes)
 
-  pub by-fit : fit ≡ false → Refused Fit ≡ column_by s views bytes count nulls places c w m
+  pub by-fit : fit ≡ false → Err Fit ≡ column_by s views bytes count nulls places c w m
   unfolding column_by refuse
   by-fit h = rw h
 
@@ -141,7 +133,7 @@ module _ (s : State) (views bytes count nulls places : ℕ) (c : Column) (w : Wh
   by-source h g = rw h (accepted-no w w _ w w refl g refl)
 
   module _ (h : fit ≡ true) (g : is_accepted w ≡ true) (p : ℕ) (e : p ≡ room_of_rows s.merging views nulls places) where
-    pub by-full : p < s.rows + c.rows → Refused RowRoom ≡ column_by s views bytes count nulls places c w m
+    pub by-full : p < s.rows + c.rows → Err RowRoom ≡ column_by s views bytes count nulls places c w m
     unfolding column_by refuse
     by-full i = rw (h, accepted-is w g, ← e, lt-ltb p (s.rows + c.rows) i)
 
@@ -185,7 +177,7 @@ module _ (s : State) (vs bs ss ns ms ps cv cb cs cl cn : List ℕ) (c : Column) 
       let g = fit-laws.fits_gives cv cb cs cl cn c (source-gives s cv cb cn (table_of cs cl) c w src.why h).0 in
       sizes-is cv cb cs cl cn c.blocks g.starts g.lens
 
-  full : fits_state here ≡ true → w ≡ Accepted → (t : Bool) → ltb room (s.rows + c.rows) ≡ t → verdict ≡ why_column column c here
+  full : fits_state here ≡ true → w ≡ accepted → (t : Bool) → ltb room (s.rows + c.rows) ≡ t → verdict ≡ why_column column c here
   unfolding column_by refuse
   full f e true g =
       rw (fits-by s vs bs ms ps n ss ns es en ∙ f, e, g)
@@ -199,9 +191,9 @@ module _ (s : State) (vs bs ss ns ms ps cv cb cs cl cn : List ℕ) (c : Column) 
 
   judged : fits_state here ≡ true → (v : Why) → w ≡ v → verdict ≡ why_column column c here
   unfolding column_by refuse
-  judged f Accepted e = full f e (ltb room (s.rows + c.rows)) refl
-  judged f (Refused z) e =
-      rw (fits-by s vs bs ms ps n ss ns es en ∙ f, e) (column-no here column c (Refused z) f (sym e ∙ src.why) refl)
+  judged f (Ok _) e = full f e (ltb room (s.rows + c.rows)) refl
+  judged f (Err z) e =
+      rw (fits-by s vs bs ms ps n ss ns es en ∙ f, e) (column-no here column c (Err z) f (sym e ∙ src.why) refl)
 
   fitting : (t : Bool) → fits_state here ≡ t → verdict ≡ why_column column c here
   unfolding column_by refuse
@@ -216,8 +208,8 @@ module _ (s : State) (vs bs ss ns ms ps cv cb cs cl cn : List ℕ) (c : Column) 
   verdict-source h = go w (accepted-both Fit _ _ h).1
     where
       go : (x : Why) → is_accepted (if_accepted x later x) ≡ true → is_accepted x ≡ true
-      go Accepted i = refl
-      go (Refused z) i = i
+      go (Ok _) i = refl
+      go (Err z) i = i
 
   module _ (v : Why) (ev : v ≡ verdict) where
     v-is : v ≡ why_column column c here
@@ -247,17 +239,12 @@ module _ (s : State) (vs bs ss ns ms ps cv cb cs cl cn : List ℕ) (c : Column) 
     abbrev f : ℕ → List ℕ
     f = block_bytes (buffers [] cb (table_of cs cl) [])
 
-    none_here : is_accepted v ≡ false → Lays (length bs) 0 0 cb (table_of cs cl) 0
-        × Files (why_column column c) (put_column column c) s vs bs (table_of ss ns) ms ps (answer v s) vs (put_data f 0 bs 0)
-        (put_records f 0 (set (table_of ss ns) n (block 0 0)) 0 0) ms ps
-    unfolding put_data put_records sizes all_in_data
-    none_here h = (
-      record { inside = omega arith; few = lit< tt; lie = refl },
-      files-of (why_column column c) (put_column column c) s vs bs ss ns ms ps (set (table_of ss ns) n (block 0 0))
-          (does-no (why_column column c) (put_column column c) s vs bs ss ns ms ps v v-is h)
-          (set-none n (block 0 0) (table_of ss ns) (table-length n ss ns es en)
-          ∙ table-no (why_column column c) (put_column column c) s vs bs ss ns ms ps v v-is h),
-    )
+    none_here : is_accepted v ≡ false → Files (why_column column c) (put_column column c) s vs bs (table_of ss ns) ms ps (answer v s) vs bs
+        (table_of ss ns) ms ps
+    none_here h =
+        files-of (why_column column c) (put_column column c) s vs bs ss ns ms ps (table_of ss ns)
+        (does-no (why_column column c) (put_column column c) s vs bs ss ns ms ps v v-is h)
+        (table-no (why_column column c) (put_column column c) s vs bs ss ns ms ps v v-is h)
 
     lays-here : is_accepted v ≡ true → (t : State) → t ≡ closed s → Lays (length bs) t.blocks t.base cb (table_of cs cl) c.blocks
     unfolding closed
@@ -279,84 +266,92 @@ module _ (s : State) (vs bs ss ns ms ps cv cb cs cl cn : List ℕ) (c : Column) 
         add-column c.rows (all_blocks s) column c (lay_blocks c.blocks (block_bytes column) (complete here))
         ∙ ap (rows_on c.rows (all_blocks s) column c) (lay-blocks c.blocks (block_bytes column) (complete here))
 
-    table_here : (t : State) (k : ℕ) (b : Block) → t ≡ closed s → set (table_of ss ns) k b ≡ open_table s (table_of ss ns)
-        → put_records f c.blocks (set (table_of ss ns) k b) t.blocks t.base ≡ (put_column column c here).lent.table
+    table_here : (t : State) (z : List Block) → t ≡ closed s → z ≡ open_table s (table_of ss ns)
+        → put_records f c.blocks z t.blocks t.base ≡ (put_column column c here).lent.table
     unfolding complete closed
-    table_here t k b et ek =
-        (λ i. put_records f c.blocks ((ek ∙ recorded-table s vs bs ss ns ms) i) (et i).blocks (et i).base)
+    table_here t z et ez =
+        (λ i. put_records f c.blocks ((ez ∙ recorded-table s vs bs ss ns ms) i) (et i).blocks (et i).base)
         ∙ sym (ap (λ (z : Builder). z.lent.table) put_is)
 
-    some-here : (t : State) {u : State} {some : Bool} {vs' ms' : List ℕ} (k : ℕ) (b : Block) → is_accepted v ≡ true → t ≡ closed s
-        → ((z : List Block) → n ≡ length z → set z k b ≡ open_table s z)
+    some-here : (t : State) {u : State} {some : Bool} {end : ℕ} {vs' ms' : List ℕ} (z : List Block) → is_accepted v ≡ true → t ≡ closed s
+        → z ≡ open_table s (table_of ss ns) → end ≡ end_from f c.blocks t.base
         → vs' ≡ put_from (λ j. renumbered t.blocks (view_at cv (c.first + j))) c.rows vs s.rows
         → ms' ≡ copy_column ms s.rows cn c.mapped c.first c.rows
         → some ≡ pick (eqb (count_nulls cn c.mapped c.first c.rows) 0) s.nulled true
-        → u ≡ column_more c.rows c.blocks (t.base + m) some t
-        → Lays (length bs) t.blocks t.base cb (table_of cs cl) c.blocks
-        × Files (why_column column c) (put_column column c) s vs bs (table_of ss ns) ms ps (answer Accepted u) vs' (put_data f c.blocks bs t.base)
-        (put_records f c.blocks (set (table_of ss ns) k b) t.blocks t.base) ms' ps
-    some-here t k b h et ek ev' em e eu =
-        let g = knows h in
-        let end : t.base + m ≡ end_from (block_bytes column) c.blocks t.base =
-        ap (λ (z : ℕ). t.base + z) (bytes-are h)
-        ∙ sym (end_is cb cs cl c.blocks (record { starts = g.source.starts; lens = g.source.lens }) g.lie c.blocks t.base (omega arith)) in (
-          lays-here h t et,
-          files-of (why_column column c) (put_column column c) s vs bs ss ns ms ps
-              (put_records f c.blocks (set (table_of ss ns) k b) t.blocks t.base)
-              (does-column s vs bs ss ns ms ps cv cb cs cl cn c v t v-is h et refl refl end refl refl refl ev' em e eu)
-              (table-yes (why_column column c) (put_column column c) s vs bs ss ns ms ps
-              (put_records f c.blocks (set (table_of ss ns) k b) t.blocks t.base) (is-accepted v (why_column column c here) v-is h)
-              (table_here t k b et (ek (table_of ss ns) (table-length n ss ns es en)))),
-        )
+        → u ≡ column_more c.rows c.blocks end some t
+        → Files (why_column column c) (put_column column c) s vs bs (table_of ss ns) ms ps (answer accepted u) vs' (put_data f c.blocks bs t.base)
+        (put_records f c.blocks z t.blocks t.base) ms' ps
+    some-here t z h et ez ee ev' em e eu =
+        files-of (why_column column c) (put_column column c) s vs bs ss ns ms ps (put_records f c.blocks z t.blocks t.base)
+        (does-column s vs bs ss ns ms ps cv cb cs cl cn c v t v-is h et refl refl ee refl refl refl ev' em e eu)
+        (table-yes (why_column column c) (put_column column c) s vs bs ss ns ms ps (put_records f c.blocks z t.blocks t.base)
+        (is-accepted v (why_column column c here) v-is h) (table_here t z et ez))
 
 -- ---- over tables of records
 
-module _ (s : State) (vs ms cv cn : List ℕ) (c : Column) (bytes count places : ℕ) (w : Why) (m : ℕ) (v : Why)
-    (ev : v ≡ column_by s (length vs) bytes count (length ms) places c w m) where
-  lengths : (bs ps : List ℕ) → bytes ≡ length bs → places ≡ length ps → v ≡ column_by s (length vs) (length bs) count (length ms) (length ps) c w m
-  lengths bs ps eb ep = ev ∙ λ i. column_by s (length vs) (eb i) count (length ms) (ep i) c w m
+-- what holds of two tables that are lent as two slices each holds of any two
+both-tables : (P : List Block → List Block → Type 0) → ((ss ns cs cl : List ℕ) → length (table_of ss ns) ≡ length ss → length (table_of ss ns) ≡ length ns
+    → P (table_of ss ns) (table_of cs cl)) → (t u : List Block) → P t u
+both-tables P f t u =
+    over-tables (λ t. P t u) (length t) (λ ss ns es en.
+    let e = table-length (length t) ss ns es en in
+    over-tables (λ u. P (table_of ss ns) u) (length u) (λ cs cl _ _. f ss ns cs cl (sym e ∙ es) (sym e ∙ en)) u refl) t refl
 
-  pub roomy : Sourced s cv cn c w m → is_accepted v ≡ true → ColumnRoomy s vs ms cv cn c m
-  roomy k h =
-      over-tables (λ u. SourceJudged s cv k.bytes u cn c w m → ColumnRoomy s vs ms cv cn c m) (length k.table) (λ cs cl _ _ src.
-      roomy-here s vs (blank bytes) (blank count) (blank count) ms (blank places) cv k.bytes cs cl cn c count (blank-length count)
-      (blank-length count) w m src v (lengths (blank bytes) (blank places) (blank-length bytes) (blank-length places)) h) k.table refl k.source
+module _ (s : State) (vs bs ms ps cv cb cn : List ℕ) (c : Column) where
+  abbrev pub judged-by : List Block → List Block → Why
+  judged-by t u =
+      column_by s (length vs) (length bs) (length t) (length ms) (length ps) c (why_invalid (buffers cv cb u cn) (by_kind s.kind c))
+      (sizes (buffers [] [] u []) c.blocks)
 
-  abbrev Leaves : List ℕ → List ℕ → List ℕ → List Block → List Block → Answer → List ℕ → List ℕ → ℕ → Block → ℕ → ℕ → ℕ → Type 0
-  Leaves bs ps cb t u r vs' ms' k b first base blocks = Lays (length bs) first base cb u blocks
-      × Files (why_column (buffers cv cb u cn) c) (put_column (buffers cv cb u cn) c) s vs bs t ms ps r vs'
-      (put_data (block_bytes (buffers [] cb u [])) blocks bs base) (put_records (block_bytes (buffers [] cb u [])) blocks (set t k b) first base) ms' ps
+  judged-source : (u : List Block) → SourceJudged s cv cb u cn c (why_invalid (buffers cv cb u cn) (by_kind s.kind c)) (sizes (buffers [] [] u []) c.blocks)
+  judged-source u = record { why = refl; total = λ h. sizes-same cv cb cn u c.blocks }
 
-  nothing-poured : is_accepted v ≡ false → (bs ps cb : List ℕ) (t u : List Block) → bytes ≡ length bs → places ≡ length ps → count ≡ length t
-      → SourceJudged s cv cb u cn c w m → Leaves bs ps cb t u (answer v s) vs ms count (block 0 0) 0 0 0
-  nothing-poured h bs ps cb t u eb ep =
-      over-tables (λ t. SourceJudged s cv cb u cn c w m → Leaves bs ps cb t u (answer v s) vs ms count (block 0 0) 0 0 0) count (λ ss ns es en.
-      over-tables (λ u. SourceJudged s cv cb u cn c w m → Leaves bs ps cb (table_of ss ns) u (answer v s) vs ms count (block 0 0) 0 0 0) (length u)
-      (λ cs cl _ _ src.
-      none_here s vs bs ss ns ms ps cv cb cs cl cn c count es en w m src v (lengths bs ps eb ep) h) u refl) t
+  pub roomy : (t u : List Block) (v : Why) → v ≡ judged-by t u → is_accepted v ≡ true → ColumnRoomy s vs ms cv cn c (sizes (buffers [] [] u []) c.blocks)
+  roomy =
+      both-tables (λ t u. (v : Why) → v ≡ judged-by t u → is_accepted v ≡ true → ColumnRoomy s vs ms cv cn c (sizes (buffers [] [] u []) c.blocks))
+      (λ ss ns cs cl es en v ev h.
+      roomy-here s vs bs ss ns ms ps cv cb cs cl cn c _ es en _ _ (judged-source (table_of cs cl)) v ev h)
 
-  pub poured-no : (r : Poured) → r ≡ stays v s count → is_accepted v ≡ false → (bs ps cb : List ℕ) (t u : List Block) → bytes ≡ length bs
-      → places ≡ length ps → count ≡ length t → SourceJudged s cv cb u cn c w m
-      → Leaves bs ps cb t u r.answer vs ms r.at r.block r.first r.base r.blocks
-  poured-no r e h bs ps cb t u eb ep et k =
-      subst (λ z. Leaves bs ps cb t u z.answer vs ms z.at z.block z.first z.base z.blocks) (sym e)
-      (nothing-poured h bs ps cb t u eb ep et k)
+  pub lays : (t u : List Block) (v : Why) → v ≡ judged-by t u → is_accepted v ≡ true → (t' : State) → t' ≡ closed s
+      → Lays (length bs) t'.blocks t'.base cb u c.blocks
+  lays =
+      both-tables (λ t u. (v : Why) → v ≡ judged-by t u → is_accepted v ≡ true → (t' : State) → t' ≡ closed s
+      → Lays (length bs) t'.blocks t'.base cb u c.blocks)
+      (λ ss ns cs cl es en v ev h.
+      lays-here s vs bs ss ns ms ps cv cb cs cl cn c _ es en _ _ (judged-source (table_of cs cl)) v ev h)
 
-  pub poured-yes : (t' : State) {u' : State} {some : Bool} {vs' ms' : List ℕ} (k : ℕ) (b : Block) → is_accepted v ≡ true → t' ≡ closed s
-      → ((z : List Block) → count ≡ length z → set z k b ≡ open_table s z)
+  pub poured-no : (t u : List Block) (v : Why) → v ≡ judged-by t u → is_accepted v ≡ false
+      → Files (why_column (buffers cv cb u cn) c) (put_column (buffers cv cb u cn) c) s vs bs t ms ps (answer v s) vs bs t ms ps
+  poured-no =
+      both-tables (λ t u. (v : Why) → v ≡ judged-by t u → is_accepted v ≡ false
+      → Files (why_column (buffers cv cb u cn) c) (put_column (buffers cv cb u cn) c) s vs bs t ms ps (answer v s) vs bs t ms ps)
+      (λ ss ns cs cl es en v ev h.
+      none_here s vs bs ss ns ms ps cv cb cs cl cn c _ es en _ _ (judged-source (table_of cs cl)) v ev h)
+
+  -- z is the builder's table with the open block's record
+  pub poured-yes : (t u : List Block) (v : Why) → v ≡ judged-by t u → is_accepted v ≡ true → (t' : State) → t' ≡ closed s
+      → (z : List Block) → z ≡ open_table s t → (u' : State) (some : Bool) (end : ℕ) (vs' ms' : List ℕ)
+      → end ≡ end_from (block_bytes (buffers [] cb u [])) c.blocks t'.base
       → vs' ≡ put_from (λ j. renumbered t'.blocks (view_at cv (c.first + j))) c.rows vs s.rows
       → ms' ≡ copy_column ms s.rows cn c.mapped c.first c.rows
       → some ≡ pick (eqb (count_nulls cn c.mapped c.first c.rows) 0) s.nulled true
-      → u' ≡ column_more c.rows c.blocks (t'.base + m) some t'
-      → (bs ps cb : List ℕ) (t u : List Block) → bytes ≡ length bs → places ≡ length ps → count ≡ length t
-      → SourceJudged s cv cb u cn c w m → Leaves bs ps cb t u (answer Accepted u') vs' ms' k b t'.blocks t'.base c.blocks
-  poured-yes t' {u'} {some} {vs'} {ms'} k b h et ek e1 e2 e3 e4 bs ps cb t u eb ep =
-      over-tables (λ t. SourceJudged s cv cb u cn c w m → Leaves bs ps cb t u (answer Accepted u') vs' ms' k b t'.blocks t'.base c.blocks) count
-      (λ ss ns es en.
-      over-tables (λ u. SourceJudged s cv cb u cn c w m → Leaves bs ps cb (table_of ss ns) u (answer Accepted u') vs' ms' k b t'.blocks t'.base
-      c.blocks)
-      (length u) (λ cs cl _ _ src.
-      some-here s vs bs ss ns ms ps cv cb cs cl cn c count es en w m src v (lengths bs ps eb ep) t' k b h et ek e1 e2 e3 e4) u refl) t
+      → u' ≡ column_more c.rows c.blocks end some t'
+      → Files (why_column (buffers cv cb u cn) c) (put_column (buffers cv cb u cn) c) s vs bs t ms ps (answer accepted u') vs'
+      (put_data (block_bytes (buffers [] cb u [])) c.blocks bs t'.base)
+      (put_records (block_bytes (buffers [] cb u [])) c.blocks z t'.blocks t'.base) ms' ps
+  poured-yes =
+      both-tables (λ t u. (v : Why) → v ≡ judged-by t u → is_accepted v ≡ true → (t' : State) → t' ≡ closed s
+      → (z : List Block) → z ≡ open_table s t → (u' : State) (some : Bool) (end : ℕ) (vs' ms' : List ℕ)
+      → end ≡ end_from (block_bytes (buffers [] cb u [])) c.blocks t'.base
+      → vs' ≡ put_from (λ j. renumbered t'.blocks (view_at cv (c.first + j))) c.rows vs s.rows
+      → ms' ≡ copy_column ms s.rows cn c.mapped c.first c.rows
+      → some ≡ pick (eqb (count_nulls cn c.mapped c.first c.rows) 0) s.nulled true
+      → u' ≡ column_more c.rows c.blocks end some t'
+      → Files (why_column (buffers cv cb u cn) c) (put_column (buffers cv cb u cn) c) s vs bs t ms ps (answer accepted u') vs'
+      (put_data (block_bytes (buffers [] cb u [])) c.blocks bs t'.base)
+      (put_records (block_bytes (buffers [] cb u [])) c.blocks z t'.blocks t'.base) ms' ps)
+      (λ ss ns cs cl es en v ev h t' et z ez u' some end vs' ms' ee e1 e2 e3 e4.
+      some-here s vs bs ss ns ms ps cv cb cs cl cn c _ es en _ _ (judged-source (table_of cs cl)) v ev t' z h et ez ee e1 e2 e3 e4)
 
 -- ---- blocks laid one by one
 
@@ -439,13 +434,13 @@ module _ (src : List ℕ) (u : List Block) where
 -- ---- sizes one by one
 
 module _ (u : List Block) where
-  pub sizes-none : 0 ≡ sizes (buffers [] [] u []) 0
+  -- as a sum
+  pub sizes-sum : (n : ℕ) → n ≤ length u → sum_by (λ b. b.len) (take n u) ≡ sizes (buffers [] [] u []) n
   unfolding sizes
-  sizes-none = refl
-
-  pub sizes-more : (k : ℕ) (b : Block) → b ≡ get_or u k (block 0 0) → sizes (buffers [] [] u []) k + b.len ≡ sizes (buffers [] [] u []) (suc k)
-  unfolding sizes
-  sizes-more k b e = ap (λ (z : Block). sizes (buffers [] [] u []) k + z.len) e
+  sizes-sum zero h = refl
+  sizes-sum (suc n) h =
+      rw (← add-one n) (sum_by_more (λ (b : Block). b.len) u n (block 0 0) (omega arith)
+      ∙ ap (λ (k : ℕ). k + (get_or u n (block 0 0)).len) (sizes-sum n (omega arith)))
 
   sizes-upto : (n : ℕ) → Counts u n → (k : ℕ) → k ≤ n → sizes (buffers [] [] u []) k ≤ 16777216 * k
   unfolding sizes
@@ -455,12 +450,8 @@ module _ (u : List Block) where
       let b = a.each k h in
       omega (arith, i, b, byte-limit-is)
 
-  pub sizes-small : (n : ℕ) → Counts u n → (k : ℕ) → k ≤ n → sizes (buffers [] [] u []) k < 18446744073709551616
-  sizes-small n a k h =
-      let i = sizes-upto n a k h in
+  pub sizes-small : (n : ℕ) → Counts u n → sizes (buffers [] [] u []) n < 18446744073709551616
+  sizes-small n a =
+      let i = sizes-upto n a n (omega arith) in
       let f = a.few in
       omega (arith, i, f, block-limit-small)
-
-  pub sizes-fits : (n : ℕ) → Counts u n → (k : ℕ) → k < n → (b : Block) → b ≡ get_or u k (block 0 0)
-      → sizes (buffers [] [] u []) k + b.len < 18446744073709551616
-  sizes-fits n a k h b e = subst (λ (z : ℕ). z < 18446744073709551616) (sym (sizes-more k b e)) (sizes-small n a (suc k) h)

@@ -1,4 +1,5 @@
 -- A view of a completed block over a table of records: its verdict test by test, and the call's contract from what its parts leave. Assumes nothing.
+use Rattle.std.specs.Prelude.{Err}
 use mathlib.Core.Path.{◌≡◌, refl, sym, ap, ◌∙◌}
 use mathlib.Core.Bool.{Bool, true, false}
 use mathlib.Core.List.{List, []}
@@ -8,10 +9,8 @@ use native.Mathlib.Omega.{arith}
 use lib.ListN.{length, get_or, take, drop, replicate}
 use lib.Seq.{paste}
 use Rattle.bounds.specs.Bounds.{row_limit, byte_limit}
-use Rattle.bounds.specs.Refusals.{is_accepted}
+use Rattle.bounds.specs.Refusals.{is_accepted, accepted, Why}
 use Rattle.bounds.specs.declared.Refusal.TheVariants.{Fit, NotUtf8, RowRoom, NoBlock, Range}
-use Rattle.bounds.specs.declared.Why.{Why}
-use Rattle.bounds.specs.declared.Why.TheVariants.{Accepted, Refused}
 use Rattle.null_bits.specs.Bits.{put_bit}
 use Rattle.views.specs.View.{make_view}
 use Rattle.column.specs.declared.Block.{Block}
@@ -44,7 +43,7 @@ module _ (s : State) (vs bs ms ps : List ℕ) (count k o n : ℕ) (b : Block) wh
   abbrev told : Why → Type 0
   told w = Says s vs bs ms ps count k o n b w
 
-  pub says-fit : fits_by s vs bs ms ps count ≡ false → told (Refused Fit)
+  pub says-fit : fits_by s vs bs ms ps count ≡ false → told (Err Fit)
   says-fit h ss ns es en at = view-fit s vs bs ss ns ms ps k o n (sym (fits-by s vs bs ms ps count ss ns es en) ∙ h)
 
   -- the bytes that the code takes
@@ -55,7 +54,7 @@ module _ (s : State) (vs bs ms ps : List ℕ) (count k o n : ℕ) (b : Block) wh
     fit : (ss ns : List ℕ) → count ≡ length ss → count ≡ length ns → fits_state (held s vs bs ss ns ms ps) ≡ true
     fit ss ns es en = sym (fits-by s vs bs ms ps count ss ns es en) ∙ h
 
-    pub says_none : s.blocks ≤ k → told (Refused NoBlock)
+    pub says_none : s.blocks ≤ k → told (Err NoBlock)
     says_none g ss ns es en at = view-none s vs bs ss ns ms ps k o n (fit ss ns es en) g
 
     module _ (there : k < s.blocks) where
@@ -65,7 +64,7 @@ module _ (s : State) (vs bs ms ps : List ℕ) (count k o n : ℕ) (b : Block) wh
           let a = all-bounds s in
           omega (arith, f.starts, a, es, there)
 
-      pub says-outside : in_data (buffers [] bs [] []) (block b.start b.len) ≡ false → told (Refused Range)
+      pub says-outside : in_data (buffers [] bs [] []) (block b.start b.len) ≡ false → told (Err Range)
       says-outside g ss ns es en at =
           view-outside s vs bs ss ns ms ps k o n (fit ss ns es en) there (ap (in_data (buffers [] bs [] [])) (sym (at (below ss ns es en))) ∙ g)
 
@@ -77,7 +76,7 @@ module _ (s : State) (vs bs ms ps : List ℕ) (count k o n : ℕ) (b : Block) wh
         len_is : (ss ns : List ℕ) → count ≡ length ss → count ≡ length ns → (k < count → b ≡ block (get_or ss k 0) (get_or ns k 0)) → b.len ≡ get_or ns k 0
         len_is ss ns es en at = ap (λ (z : Block). z.len) (at (below ss ns es en))
 
-        pub says-over : b.len < o + n → told (Refused Range)
+        pub says-over : b.len < o + n → told (Err Range)
         says-over g ss ns es en at =
             let e = len_is ss ns es en at in
             view-over s vs bs ss ns ms ps k o n (fit ss ns es en) there (in_table ss ns es en at) (omega (arith, e, g))
@@ -90,17 +89,17 @@ module _ (s : State) (vs bs ms ps : List ℕ) (count k o n : ℕ) (b : Block) wh
               → y ≡ of_kind s.kind (bytes (block (get_or ss k 0) (get_or ns k 0)))
           kind-is ss ns es en at = ey ∙ ap (λ (z : Block). of_kind s.kind (bytes z)) (at (below ss ns es en))
 
-          pub says-kind : y ≡ false → told (Refused NotUtf8)
+          pub says-kind : y ≡ false → told (Err NotUtf8)
           says-kind g ss ns es en at =
               view-kind s vs bs ss ns ms ps k o n (fit ss ns es en) there (in_table ss ns es en at) (in-range ss ns es en at) y (kind-is ss ns es en at) g
 
           module _ (rows : ℕ) (er : rows ≡ room_of_rows s.merging (length vs) (length ms) (length ps)) (ok : y ≡ true) where
-            pub says-full : rows ≤ s.rows → told (Refused RowRoom)
+            pub says-full : rows ≤ s.rows → told (Err RowRoom)
             says-full g ss ns es en at =
                 view-full s vs bs ss ns ms ps k o n (fit ss ns es en) there (in_table ss ns es en at) (in-range ss ns es en at) y
                 (kind-is ss ns es en at) rows er ok g
 
-            pub says-fine : s.rows < rows → told Accepted
+            pub says-fine : s.rows < rows → told accepted
             says-fine g ss ns es en at =
                 view-fine s vs bs ss ns ms ps k o n (fit ss ns es en) there (in_table ss ns es en at) (in-range ss ns es en at) y
                 (kind-is ss ns es en at) rows er ok g
@@ -153,7 +152,7 @@ module _ (s : State) (vs bs ms ps : List ℕ) (count k o n : ℕ) (b : Block) wh
 
       yes-here : {u : State} {vs' ms' : List ℕ} → is_accepted w ≡ true → u ≡ rowed true s
           → vs' ≡ paste vs (16 * s.rows) (make_view (bytes b) k o) 16 → ms' ≡ put_bit ms s.rows true
-          → Files (λ d. why_view d k o n) (put_view k o n) s vs bs (table_of ss ns) ms ps (answer Accepted u) vs' bs (table_of ss ns) ms' ps
+          → Files (λ d. why_view d k o n) (put_view k o n) s vs bs (table_of ss ns) ms ps (answer accepted u) vs' bs (table_of ss ns) ms' ps
       yes-here h eu ev em =
           let g = seen s vs bs ss ns ms ps k o n (ap is_accepted (sym w-is) ∙ h) in
           let f = fits_gives s vs bs ss ns ms ps g.fit in
@@ -174,7 +173,7 @@ module _ (s : State) (vs bs ms ps : List ℕ) (count k o n : ℕ) (b : Block) wh
     pub viewed-yes : {u : State} {vs' ms' : List ℕ} → is_accepted w ≡ true → u ≡ rowed true s
         → vs' ≡ paste vs (16 * s.rows) (make_view (bytes b) k o) 16 → ms' ≡ put_bit ms s.rows true
         → (t : List Block) → count ≡ length t → b ≡ get_or t k (block 0 0)
-        → Files (λ d. why_view d k o n) (put_view k o n) s vs bs t ms ps (answer Accepted u) vs' bs t ms' ps
+        → Files (λ d. why_view d k o n) (put_view k o n) s vs bs t ms ps (answer accepted u) vs' bs t ms' ps
     viewed-yes {u} {vs'} {ms'} h eu ev em =
-        over-tables (λ t. b ≡ get_or t k (block 0 0) → Files (λ d. why_view d k o n) (put_view k o n) s vs bs t ms ps (answer Accepted u) vs' bs t ms' ps) count
+        over-tables (λ t. b ≡ get_or t k (block 0 0) → Files (λ d. why_view d k o n) (put_view k o n) s vs bs t ms ps (answer accepted u) vs' bs t ms' ps) count
         (λ ss ns es en eb. yes-here ss ns es en eb h eu ev em)

@@ -1,9 +1,8 @@
 -- A column over a table of records: what is known of it before it is added, and what laying its blocks asks; a view's verdict by one record. Assumes nothing.
 use Rattle.std.specs.Prelude.{◌≡◌, true, not, List, [], ℕ, ◌+◌, ◌*◌, ◌≤◌, ◌<◌, ltb, length, get_or}
 use Rattle.bounds.specs.Bounds.{row_limit, block_limit, byte_limit}
-use Rattle.bounds.specs.Refusals.{refuse, is_accepted, if_accepted}
+use Rattle.bounds.specs.Refusals.{refuse, is_accepted, if_accepted, accepted, Why}
 use Rattle.bounds.specs.declared.Refusal.TheVariants.{Fit, RowRoom}
-use Rattle.bounds.specs.declared.Why.{Why}
 use Rattle.column.specs.declared.Block.{Block}
 use Rattle.column.specs.declared.Column.{Column}
 use Rattle.column.specs.Lent.{buffers, block, all_in_data}
@@ -12,9 +11,7 @@ use Rattle.builder.specs.declared.State.{State}
 use Rattle.builder.specs.State.{held, all_blocks, used, fits_rooms}
 use Rattle.builder.specs.Rooms.{room_of_rows, room_of_blocks, room_of_bytes}
 use Rattle.builder.specs.Others.{why_room, why_view, sizes}
-use Rattle.builder.specs.Does.{answer}
 use Rattle.appending.specs.Laying.{by_kind}
-use Rattle.filing_columns.specs.declared.Poured.{Poured}
 
 -- n blocks whose bytes can be counted
 pub record Counts (u : List Block) (n : ℕ) : Type 0 where
@@ -31,12 +28,6 @@ pub record Lays (bytes first base : ℕ) (src : List ℕ) (u : List Block) (n : 
 pub record SourceJudged (s : State) (views bytes : List ℕ) (u : List Block) (nulls : List ℕ) (c : Column) (w : Why) (m : ℕ) : Type 0 where
   pub why : w ≡ why_invalid (buffers views bytes u nulls) (by_kind s.kind c)
   pub total : is_accepted w ≡ true → m ≡ sizes (buffers views bytes u nulls) c.blocks
-
--- the same of some data and table
-pub record Sourced (s : State) (views nulls : List ℕ) (c : Column) (w : Why) (m : ℕ) : Type 0 where
-  pub bytes : List ℕ
-  pub table : List Block
-  pub source : SourceJudged s views bytes table nulls c w m
 
 -- the numbers that an accepted column keeps to: those of the builder with it, and its own
 pub record ColumnRoomy (s : State) (views nulls srcviews srcnulls : List ℕ) (c : Column) (m : ℕ) : Type 0 where
@@ -56,10 +47,6 @@ column_by s views bytes count nulls places c w m =
     (if_accepted w
     (refuse RowRoom (ltb (room_of_rows s.merging views nulls places) (s.rows + c.rows))
     (why_room s (room_of_blocks count count) (room_of_bytes bytes) c.blocks m)) w)
-
--- nothing to be written: a record past the table's end, and no blocks
-abbrev pub stays : Why → State → ℕ → Poured
-stays w s count = record { answer = answer w s; at = count; block = block 0 0; first = 0; base = 0; blocks = 0 }
 
 -- w is the verdict on n bytes at offset o of block k over each table of two number slices that has b as that block's record
 abbrev pub Says : State → List ℕ → List ℕ → List ℕ → List ℕ → ℕ → ℕ → ℕ → ℕ → Block → Why → Type 0

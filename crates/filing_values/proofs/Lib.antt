@@ -1,3 +1,3 @@
 pub mod ValueLaws
-pub mod QuestLaws
+pub mod SearchLaws
 pub mod Only

@@ -1,1 +1,1 @@
-pub mod Quests
+pub mod Search

@@ -1,5 +1,5 @@
 -- Where the value of a row stands with the open block under the next number, and the question and the value. Assumes nothing.
-use Rattle.std.specs.Prelude.{◌≡◌, false, not, ℕ, ◌+◌, ◌*◌, ◌≤◌, ◌<◌, leb, length, get_or}
+use Rattle.std.specs.Prelude.{◌≡◌, false, not, ℕ, ◌+◌, ◌*◌, ◌≤◌, ◌<◌, leb, length, get_or, Err}
 use Rattle.std.proofs.Math.Path.{refl, sym, ap}
 use Rattle.std.proofs.Common.{◌∙◌, add_comm, arith}
 use Rattle.std.proofs.Math.Bool.{true}
@@ -7,10 +7,8 @@ use mathlib.Core.List.{List, []}
 use Rattle.std.proofs.Math.Nat.{zero-add}
 use borrow.Author.Tests.{le-leb, lt-leb, leb-false, not-false}
 use Rattle.basis.specs.Pick.{if_lt}
-use Rattle.bounds.specs.Refusals.{refuse, is_accepted, accepted-both, accepted-yes, accepted-no}
+use Rattle.bounds.specs.Refusals.{refuse, is_accepted, accepted-both, accepted-yes, accepted-no, accepted, Why}
 use Rattle.bounds.specs.declared.Refusal.TheVariants.{Fit, Row, BadView}
-use Rattle.bounds.specs.declared.Why.{Why}
-use Rattle.bounds.specs.declared.Why.TheVariants.{Accepted, Refused}
 use Rattle.views.specs.View.{view_size, view_at, block_of}
 use Rattle.column.specs.declared.Block.{Block}
 use Rattle.column.specs.declared.Spot.{Spot}
@@ -72,11 +70,11 @@ module _ (s : State) (vs bs ss ns ms ps : List ℕ) (r : ℕ) where
   abbrev here : Builder
   here = held s vs bs ss ns ms ps
 
-  pub get_fit : fits_state here ≡ false → Refused Fit ≡ why_get here r
+  pub get_fit : fits_state here ≡ false → Err Fit ≡ why_get here r
   unfolding why_get refuse
   get_fit h = rw h
 
-  pub get-late : fits_state here ≡ true → s.rows ≤ r → Refused Row ≡ why_get here r
+  pub get-late : fits_state here ≡ true → s.rows ≤ r → Err Row ≡ why_get here r
   unfolding why_get refuse
   get-late h g = rw (h, le-leb s.rows r g)
 
@@ -85,11 +83,11 @@ module _ (s : State) (vs bs ss ns ms ps : List ℕ) (r : ℕ) where
   whole = refl
 
   pub get-bad : fits_state here ≡ true → r < s.rows → reachable (recorded s (bare vs bs ss ns)) (all_blocks s) (view_at vs r) ≡ false
-      → Refused (BadView r) ≡ why_get here r
+      → Err (BadView r) ≡ why_get here r
   unfolding why_get refuse recorded
   get-bad h g f = rw (h, lt-leb s.rows r g, zero-add r, sym whole ∙ f)
 
-  pub get-fine : fits_state here ≡ true → r < s.rows → reachable (recorded s (bare vs bs ss ns)) (all_blocks s) (view_at vs r) ≡ true → Accepted ≡ why_get here r
+  pub get-fine : fits_state here ≡ true → r < s.rows → reachable (recorded s (bare vs bs ss ns)) (all_blocks s) (view_at vs r) ≡ true → accepted ≡ why_get here r
   unfolding why_get refuse recorded
   get-fine h g f = rw (h, lt-leb s.rows r g, zero-add r, sym whole ∙ f)
 
@@ -104,7 +102,7 @@ module _ (s : State) (vs bs ss ns ms ps : List ℕ) (r : ℕ) where
   got a =
       let f = accepted-both Fit (not (fits_state here)) _ a in
       let g = accepted-both Row (leb s.rows r) _ f.1 in
-      let k = accepted-both (BadView r) _ Accepted g.1 in
+      let k = accepted-both (BadView r) _ accepted g.1 in
       let z : reachable (recorded s (lent vs bs ss ns ms)) (all_blocks s) (view_at vs (0 + r)) ≡ true = not-false _ k.0 in
       record { fit = not-false _ f.0; row = leb-false s.rows r g.0; reach = whole ∙ rw (zero-add r) at z }
 

@@ -1,10 +1,9 @@
--- The merge table emptied, place by place; start and the two finishes from what their parts leave. Assumes nothing.
-use Rattle.std.specs.Prelude.{◌≡◌, Bool, true, false, ◌&&◌, List, [], ◌∷◌, ◌++◌, ℕ, zero, suc, ◌+◌, ◌≤◌, ◌<◌, leb, length, set, drop, replicate}
+-- The merge table emptied, start and the two finishes from what their parts leave. Assumes nothing.
+use Rattle.std.specs.Prelude.{◌≡◌, Bool, true, false, ◌&&◌, List, ℕ, ◌≤◌, leb, length, replicate, Err}
 use Rattle.std.proofs.Math.Path.{refl, subst}
-use Rattle.std.proofs.Common.{sym, ap, ◌∙◌, add-one, arith, length-set}
-use Rattle.bounds.specs.Refusals.{refuse}
+use Rattle.std.proofs.Common.{sym, ap, ◌∙◌}
+use Rattle.bounds.specs.Refusals.{refuse, accepted}
 use Rattle.bounds.specs.declared.Refusal.TheVariants.{Setting, Fit}
-use Rattle.bounds.specs.declared.Why.TheVariants.{Accepted, Refused}
 use Rattle.column.specs.declared.Column.{Column}
 use Rattle.builder.specs.declared.Merging.{Merging}
 use Rattle.builder.specs.declared.Settings.{Settings}
@@ -22,37 +21,6 @@ use Rattle.builder.specs.Does.{Does, answer}
 use Rattle.builder.specs.DoesLaws.{does-no, does-put}
 use Rattle.builder.proofs.PutLaws.{recorded-starts, recorded-lens}
 
--- the first k places emptied
-unfoldable pub zeroed : ℕ → List ℕ → List ℕ
-zeroed zero l = l
-zeroed (suc k) l = set (zeroed k l) k 0
-
-pub zeroed-more : (l : List ℕ) (k : ℕ) → set (zeroed k l) k 0 ≡ zeroed (k + 1) l
-unfolding zeroed
-zeroed-more l k = rw (add-one k)
-
-pub length-zeroed : (l : List ℕ) (k : ℕ) → length (zeroed k l) ≡ length l
-unfolding zeroed
-length-zeroed l zero = refl
-length-zeroed l (suc k) = length-set (zeroed k l) k 0 ∙ length-zeroed l k
-
-set_next : (l : List ℕ) (k : ℕ) → k < length l → set (replicate k 0 ++ drop k l) k 0 ≡ replicate (suc k) 0 ++ drop (suc k) l
-set_next [] k h = absurd (omega arith)
-set_next (a ∷ l) zero h = refl
-set_next (a ∷ l) (suc k) h = ap (λ (t : List ℕ). 0 ∷ t) (set_next l k (omega arith))
-
-zeroed-is : (l : List ℕ) (k : ℕ) → k ≤ length l → zeroed k l ≡ replicate k 0 ++ drop k l
-unfolding zeroed
-zeroed-is l zero h = refl
-zeroed-is l (suc k) h = ap (λ (t : List ℕ). set t k 0) (zeroed-is l k (omega arith)) ∙ set_next l k (omega arith)
-
-none_left : (l : List ℕ) → replicate (length l) 0 ++ drop (length l) l ≡ replicate (length l) 0
-none_left [] = refl
-none_left (a ∷ l) = ap (λ (t : List ℕ). 0 ∷ t) (none_left l)
-
-pub zeroed-all : (l : List ℕ) (k : ℕ) → k ≡ length l → zeroed k l ≡ replicate (length l) 0
-zeroed-all l k e = rw e (zeroed-is l (length l) (omega arith) ∙ none_left l)
-
 module _ (m : Merging) (ps : List ℕ) (b : Bool) (e : b ≡ is_off m) where
   pub clear-off : b ≡ true → ps ≡ cleared m ps
   unfolding cleared
@@ -66,14 +34,14 @@ module _ (m : Merging) (ps : List ℕ) (b : Bool) (e : b ≡ is_off m) where
 
 module _ (t : Settings) (ps : List ℕ) (st : State) where
   pub start-no : lawful_sizes t.sizes && lawful_merging t.merging ≡ false → st ≡ unstarted t
-      → (answer (Refused Setting) st ≡ answer (why_start t) (start_state t)) × (ps ≡ start_places t ps)
+      → (answer (Err Setting) st ≡ answer (why_start t) (start_state t)) × (ps ≡ start_places t ps)
   unfolding why_start start_state start_places refuse
-  start-no h e = (rw h (ap (answer (Refused Setting)) e), rw h)
+  start-no h e = (rw h (ap (answer (Err Setting)) e), rw h)
 
   pub start-yes : (ps' : List ℕ) → lawful_sizes t.sizes && lawful_merging t.merging ≡ true → st ≡ started t → ps' ≡ cleared t.merging ps
-      → (answer Accepted st ≡ answer (why_start t) (start_state t)) × (ps' ≡ start_places t ps)
+      → (answer accepted st ≡ answer (why_start t) (start_state t)) × (ps' ≡ start_places t ps)
   unfolding why_start start_state start_places refuse
-  start-yes ps' h e p = (rw h (ap (answer Accepted) e), rw h p)
+  start-yes ps' h e p = (rw h (ap (answer accepted) e), rw h p)
 
 -- a refused start answers a state that no buffers fit (an end theorem: nothing cites it)
 pub unstarted-never : (t : Settings) (vs bs ss ns ms ps : List ℕ) → fits_state (held (unstarted t) vs bs ss ns ms ps) ≡ false
@@ -89,20 +57,20 @@ module _ (s : State) (vs bs ss ns ms ps : List ℕ) where
   abbrev here : Builder
   here = held s vs bs ss ns ms ps
 
-  finish-no : fits_state here ≡ false → Refused Fit ≡ why_finish here
+  finish-no : fits_state here ≡ false → Err Fit ≡ why_finish here
   unfolding why_finish refuse
   finish-no h = rw h
 
-  finish-yes : fits_state here ≡ true → why_finish here ≡ Accepted
+  finish-yes : fits_state here ≡ true → why_finish here ≡ accepted
   unfolding why_finish refuse
   finish-yes h = rw h
 
-  pub does-refused : (put : Builder → Builder) (a : Answer) (c : Column) → fits_state here ≡ false → a ≡ answer (Refused Fit) s → c ≡ no_column s
+  pub does-refused : (put : Builder → Builder) (a : Answer) (c : Column) → fits_state here ≡ false → a ≡ answer (Err Fit) s → c ≡ no_column s
       → Does why_finish put s vs bs ss ns ms ps a vs bs ss ns ms ps × (c ≡ finish_column here)
   unfolding finish_column
   does-refused put a c h e d = (
     subst (λ (z : Answer). Does why_finish put s vs bs ss ns ms ps z vs bs ss ns ms ps) (sym e) (does-no why_finish put s vs bs ss ns ms ps
-        (Refused Fit) (finish-no h) refl),
+        (Err Fit) (finish-no h) refl),
     rw (← finish-no h) d,
   )
 
@@ -113,7 +81,7 @@ module _ (s : State) (vs bs ss ns ms ps : List ℕ) where
     unfolding finish_column
     is-column = rw (finish-yes fit) ec
 
-    pub does-copied : Does why_finish copied s vs bs ss ns ms ps (answer Accepted s) vs bs ss' ns' ms ps × (c ≡ finish_column here)
+    pub does-copied : Does why_finish copied s vs bs ss ns ms ps (answer accepted s) vs bs ss' ns' ms ps × (c ≡ finish_column here)
     unfolding copied recorded
     does-copied = (
       does-put why_finish copied s vs bs ss ns ms ps (copied here) (finish-yes fit) refl refl refl refl
@@ -122,7 +90,7 @@ module _ (s : State) (vs bs ss ns ms ps : List ℕ) where
     )
 
     pub does-finished : (st : State) {ps' : List ℕ} → st ≡ empty_state s.kind s.growth s.merging → ps' ≡ cleared s.merging ps
-        → Does why_finish finished s vs bs ss ns ms ps (answer Accepted st) vs bs ss' ns' ms ps' × (c ≡ finish_column here)
+        → Does why_finish finished s vs bs ss ns ms ps (answer accepted st) vs bs ss' ns' ms ps' × (c ≡ finish_column here)
     unfolding finished recorded
     does-finished st e p = (
       does-put why_finish finished s vs bs ss ns ms ps (finished here) (finish-yes fit) refl e refl refl

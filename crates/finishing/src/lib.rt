@@ -1,7 +1,7 @@
 // A builder's start, its two finishes, and the value of a row while it is built. The state goes in by value and comes back; the buffers are lent.
 #![tactic(auto)]
 
-ghost use Rattle.std.specs.Prelude.{◌≡◌, true, false, ◌&&◌, ◌<◌, leb, length, replicate};
+ghost use Rattle.std.specs.Prelude.{◌≡◌, true, false, ◌&&◌, ◌<◌, leb};
 ghost use Rattle.bounds.specs.Bounds.{byte_limit};
 ghost use Rattle.views.specs.View.{view_at};
 ghost use Rattle.column.specs.Lent.{table_of};
@@ -15,12 +15,13 @@ ghost use Rattle.builder.specs.Finish.{why_finish, copied, finished, finish_colu
 ghost use Rattle.builder.specs.Does.{Does, answer};
 ghost use Rattle.finishing.specs.Places.{spot_row, get_points};
 
-use bounds::{Refusal, Why};
+use bounds::Refusal;
 use builder::{Answer, Merging, Settings, Sizes, State};
 use column::{Block, Column, Kind, Spot};
 use growth::Growth;
 
-// What a finish answers: its verdict beside the state that it leaves, and the column that was built, none where it is refused.
+// What a finish answers: its verdict beside the state that it leaves, and the column that was built, without rows where it is refused. A record and no
+// Result: `Does`, and the theorems over it, say what the state is on a refusal too, and `finish_column` what the column is.
 #[derive(Clone, Copy)]
 pub struct Finished {
     pub answer: Answer,
@@ -30,10 +31,7 @@ pub struct Finished {
 fn lawful_size(n: usize) -> bool
     ensures { result ≡ leb 1 n && leb n byte_limit }
 {
-    if n < 1 {
-        return false;
-    }
-    n <= bounds::BYTE_LIMIT
+    1 <= n && n <= bounds::BYTE_LIMIT
 }
 
 fn lawful_sizes(s: Sizes) -> bool
@@ -49,8 +47,7 @@ fn lawful_merging(m: Merging) -> bool
     ensures { result ≡ lawful_merging m }
 {
     match m {
-        Merging::Off => true,
-        Merging::On => true,
+        Merging::Off | Merging::On => true,
         Merging::UpTo(n) => 1 <= n,
     }
 }
@@ -67,11 +64,7 @@ fn growth_of(s: Sizes) -> Growth
 fn is_off(m: Merging) -> bool
     ensures { result ≡ is_off m }
 {
-    match m {
-        Merging::Off => true,
-        Merging::On => false,
-        Merging::UpTo(_) => false,
-    }
+    matches!(m, Merging::Off)
 }
 
 // A state without rows and blocks.
@@ -91,50 +84,29 @@ pub fn empty_state(kind: Kind, growth: Growth, merging: Merging) -> State
     }
 }
 
-fn zero_all(places: &mut [u32])
-    ensures { places.new ≡ replicate (length places.old) 0 }
-{
-    let n = places.len();
-    let mut k = 0;
-    while k < n {
-        places[k] = 0;
-        k += 1;
-    }
-}
-
 // The merge table emptied, where it is used.
 pub fn clear(m: Merging, places: &mut [u32])
     ensures { places.new ≡ cleared m places.old }
 {
-    if is_off(m) {
-        return;
+    if !is_off(m) {
+        places.fill(0);
     }
-    zero_all(places);
 }
 
 // The builder's settings are taken: its state before the first row, and the merge table emptied. Refused, the state fits no buffers.
 pub fn start(t: Settings, places: &mut [u32]) -> Answer
     ensures { (result ≡ answer (why_start t) (start_state t)) × (places.new ≡ start_places t places.old) }
 {
-    let kind = t.kind;
-    let sizes = t.sizes;
-    let merging = t.merging;
-    if !lawful_sizes(sizes) {
+    if !lawful_sizes(t.sizes) || !lawful_merging(t.merging) {
         return Answer {
-            why: Why::Refused(Refusal::Setting),
-            state: empty_state(kind, Growth::Fixed(0), merging),
+            why: Err(Refusal::Setting),
+            state: empty_state(t.kind, Growth::Fixed(0), t.merging),
         };
     }
-    if !lawful_merging(merging) {
-        return Answer {
-            why: Why::Refused(Refusal::Setting),
-            state: empty_state(kind, Growth::Fixed(0), merging),
-        };
-    }
-    clear(merging, places);
+    clear(t.merging, places);
     Answer {
-        why: Why::Accepted,
-        state: empty_state(kind, growth_of(sizes), merging),
+        why: Ok(()),
+        state: empty_state(t.kind, growth_of(t.sizes), t.merging),
     }
 }
 
@@ -143,39 +115,31 @@ pub fn column_of(s: State) -> Column
     requires { all_blocks s < 18446744073709551616 }
     ensures { result ≡ record { first = 0; rows = s.rows; blocks = all_blocks s; kind = s.kind; mapped = s.nulled } }
 {
-    let kind = s.kind;
     Column {
         first: 0,
         rows: s.rows,
         blocks: builder::all_blocks(s),
-        kind,
+        kind: s.kind,
         mapped: s.nulled,
     }
 }
 
-fn no_column(kind: Kind) -> Column
-    ensures { result ≡ record { first = 0; rows = 0; blocks = 0; kind = kind; mapped = false } }
-{
-    Column {
-        first: 0,
-        rows: 0,
-        blocks: 0,
-        kind,
-        mapped: false,
-    }
-}
-
 pub fn refused(s: State) -> Finished
-    ensures { (result.answer ≡ answer (Why.Refused Refusal.Fit) s)
+    ensures { (result.answer ≡ answer (Err Refusal.Fit) s)
         × (result.column ≡ record { first = 0; rows = 0; blocks = 0; kind = s.kind; mapped = false }) }
 {
-    let kind = s.kind;
     Finished {
         answer: Answer {
-            why: Why::Refused(Refusal::Fit),
+            why: Err(Refusal::Fit),
             state: s,
         },
-        column: no_column(kind),
+        column: Column {
+            first: 0,
+            rows: 0,
+            blocks: 0,
+            kind: s.kind,
+            mapped: false,
+        },
     }
 }
 
@@ -195,13 +159,13 @@ pub fn finish_copy(
         × (result.column ≡ finish_column (held s views.now bytes.now starts.old lens.old nulls.now
         places.now)) }
 {
-    if !builder::fits_lent(s, views, bytes, &starts[..], &lens[..], nulls, places) {
+    if !builder::fits_lent(s, views, bytes, starts, lens, nulls, places) {
         return refused(s);
     }
     builder::put_record(s, starts, lens);
     Finished {
         answer: Answer {
-            why: Why::Accepted,
+            why: Ok(()),
             state: s,
         },
         column: column_of(s),
@@ -224,31 +188,26 @@ pub fn finish(
         × (result.column ≡ finish_column (held s views.now bytes.now starts.old lens.old nulls.now
         places.old)) }
 {
-    if !builder::fits_lent(s, views, bytes, &starts[..], &lens[..], nulls, &places[..]) {
+    if !builder::fits_lent(s, views, bytes, starts, lens, nulls, places) {
         return refused(s);
     }
-    let kind = s.kind;
-    let growth = s.growth;
-    let merging = s.merging;
     builder::put_record(s, starts, lens);
-    clear(merging, places);
+    clear(s.merging, places);
     Finished {
         answer: Answer {
-            why: Why::Accepted,
-            state: empty_state(kind, growth, merging),
+            why: Ok(()),
+            state: empty_state(s.kind, s.growth, s.merging),
         },
         column: column_of(s),
     }
 }
 
-// The record of the block that the view of a row names, the open block under the next number; an empty one where it names none.
+// The record of the block that the view of a row names, the open block under the next number. An empty one where it names none, and no None:
+// `column::spot_with` takes a record of any view, and doesn't read it then.
 fn record_row(s: State, views: &[u8], starts: &[usize], lens: &[usize], r: usize) -> Block
     requires { Ready s views.now starts.now lens.now × (r < s.rows) }
     ensures { Names (table_of (open_starts s starts.now) (open_lens s lens.now)) (all_blocks s) (view_at views.now r) result }
 {
-    let blocks = s.blocks;
-    let base = s.base;
-    let fill = s.fill;
     if views::view_len(views, r) <= views::SHORT_MOST {
         return Block { start: 0, len: 0 };
     }
@@ -257,8 +216,8 @@ fn record_row(s: State, views: &[u8], starts: &[usize], lens: &[usize], r: usize
         return Block { start: 0, len: 0 };
     }
     Block {
-        start: builder::at_or(starts, blocks, base, k),
-        len: builder::at_or(lens, blocks, fill, k),
+        start: builder::at_or(starts, s.blocks, s.base, k),
+        len: builder::at_or(lens, s.blocks, s.fill, k),
     }
 }
 
@@ -288,21 +247,20 @@ pub fn why_get(
     nulls: &[u8],
     places: &[u32],
     r: usize,
-) -> Why
+) -> Result<(), Refusal>
     ensures { result ≡ why_get (held s views.now bytes.now starts.now lens.now nulls.now
         places.now) r }
 {
-    let rows = s.rows;
     if !builder::fits_lent(s, views, bytes, starts, lens, nulls, places) {
-        return Why::Refused(Refusal::Fit);
+        return Err(Refusal::Fit);
     }
-    if rows <= r {
-        return Why::Refused(Refusal::Row);
+    if s.rows <= r {
+        return Err(Refusal::Row);
     }
     if !column::is_reached(spot_row(s, views, bytes, starts, lens, r)) {
-        return Why::Refused(Refusal::BadView(r));
+        return Err(Refusal::BadView(r));
     }
-    Why::Accepted
+    Ok(())
 }
 
 // A row's value while it is built, its null bit ignored: a part of the views or of the data; empty where it is refused.
@@ -321,7 +279,7 @@ pub fn get_value<'a>(
         × (result.ref_ptr ≡ get_points (held s views.now bytes.now starts.now lens.now nulls.now
         places.now) r views.entry.ref_ptr bytes.entry.ref_ptr) }
 {
-    if !bounds::is_accepted(why_get(s, views, bytes, starts, lens, nulls, places, r)) {
+    if why_get(s, views, bytes, starts, lens, nulls, places, r).is_err() {
         return &views[0..0];
     }
     column::part_of(views, bytes, spot_row(s, views, bytes, starts, lens, r))

@@ -1,5 +1,6 @@
 -- The sheet is the doubling: each of its sizes, whether a state fits, and the step's whole answer, for every state; so what a call above makes of them is
 -- the same by either. Assumes nothing.
+use Rattle.bounds.specs.Refusals.{accepted}
 use Prim.Native.Nat.{ℕ, zero, suc, ◌+◌, ◌<◌}
 use mathlib.Core.Path.{◌≡◌, refl, sym, ap, ◌∙◌, fun_ext}
 use mathlib.Core.Bool.{Bool, true, false}
@@ -9,7 +10,6 @@ use lib.ListN.{get_or}
 use borrow.Author.Tests.{eqb-true, ltb-true}
 use Rattle.basis.specs.Pick.{pick}
 use Rattle.bounds.specs.Bounds.{byte_limit}
-use Rattle.bounds.specs.declared.Why.TheVariants.{Accepted}
 use Rattle.growth.specs.declared.Step.{Step}
 use Rattle.growth.specs.declared.Growth.{Growth}
 use Rattle.growth.specs.declared.Growth.TheVariants.{Fixed, Doubling}
@@ -67,7 +67,7 @@ pub same_step : (g : Growth) → step_of g ≡ doubled_step g
 unfolding fits_growth doubled_step
 same_step g = by (fits_growth g) refl
   where
-    taken : (g : Growth) → fits_growth g ≡ true → step_of g ≡ record { why = Accepted; growth = doubled_growth g; size = doubled_size g }
+    taken : (g : Growth) → fits_growth g ≡ true → step_of g ≡ record { why = accepted; growth = doubled_growth g; size = doubled_size g }
     taken (Fixed n) e = step-fixed (Fixed n) n refl e
     taken (Doubling s) e = step-doubling (Doubling s) s (doubled s) refl e (sym (same_next s e))
 

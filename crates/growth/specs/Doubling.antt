@@ -1,9 +1,9 @@
 -- Growth by doubling, in the paper's words: "Doubling from 8,192: first 16,384, eighth 2,097,152, then constant. Fixed: always the size." The step goes by
 -- the sheet (Growing); this is what the sheet is held against (proofs/Sheet). Assumes nothing.
-use Rattle.std.specs.Prelude.{ℕ, zero, suc, ◌*◌, ◌^◌, Bool, false, ◌||◌, ◌&&◌, eqb, ltb, leb}
+use Rattle.bounds.specs.Refusals.{accepted}
+use Rattle.std.specs.Prelude.{ℕ, zero, suc, ◌*◌, ◌^◌, Bool, false, ◌||◌, ◌&&◌, eqb, ltb, leb, Err}
 use Rattle.basis.specs.Pick.{pick}
 use Rattle.bounds.specs.Bounds.{byte_limit}
-use Rattle.bounds.specs.declared.Why.TheVariants.{Accepted, Refused}
 use Rattle.bounds.specs.declared.Refusal.TheVariants.{Fit}
 use Rattle.growth.specs.declared.Step.{Step}
 use Rattle.growth.specs.declared.Growth.{Growth}
@@ -40,5 +40,5 @@ doubled_growth (Doubling s) = Doubling (doubled s)
 unfoldable pub doubled_step : Growth → Step
 doubled_step g =
     pick (fits_doubled g)
-    (record { why = Accepted; growth = doubled_growth g; size = doubled_size g })
-    (record { why = Refused Fit; growth = g; size = 0 })
+    (record { why = accepted; growth = doubled_growth g; size = doubled_size g })
+    (record { why = Err Fit; growth = g; size = 0 })

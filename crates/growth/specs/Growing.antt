@@ -3,9 +3,7 @@
 use Rattle.std.specs.Prelude.{ℕ, zero, suc, Bool, false, not, ◌||◌, ◌&&◌, List, [], ◌∷◌, eqb, ltb, leb, get_or}
 use Rattle.basis.specs.Pick.{pick}
 use Rattle.bounds.specs.Bounds.{byte_limit}
-use Rattle.bounds.specs.Refusals.{refuse, if_accepted}
-use Rattle.bounds.specs.declared.Why.{Why}
-use Rattle.bounds.specs.declared.Why.TheVariants.{Accepted}
+use Rattle.bounds.specs.Refusals.{refuse, if_accepted, accepted, Why}
 use Rattle.bounds.specs.declared.Refusal.TheVariants.{Fit}
 use Rattle.growth.specs.declared.Step.{Step}
 use Rattle.growth.specs.declared.Growth.{Growth}
@@ -63,7 +61,7 @@ grown (Fixed n) = Fixed n
 grown (Doubling s) = Doubling (next_size s)
 
 unfoldable pub step_why : Growth → Why
-step_why g = refuse Fit (not (fits_growth g)) Accepted
+step_why g = refuse Fit (not (fits_growth g)) accepted
 
 unfoldable pub step_of : Growth → Step
 step_of g = record { why = step_why g; growth = if_accepted (step_why g) (grown g) g; size = if_accepted (step_why g) (size_of g) 0 }

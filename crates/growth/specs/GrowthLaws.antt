@@ -1,11 +1,10 @@
 -- What growth does: it takes the sheet's sizes in their order and stays on the sheet. A law about the start and the eight sizes is a test that computes at
 -- each of the nine. Assumes nothing.
-use Rattle.std.specs.Prelude.{ℕ, zero, suc, ◌≤◌, ◌<◌, ◌≡◌, refl, Bool, true, false, not, ◌||◌, ◌&&◌, eqb, ltb, leb, get_or}
+use Rattle.std.specs.Prelude.{ℕ, zero, suc, ◌≤◌, ◌<◌, ◌≡◌, refl, Bool, true, false, not, ◌||◌, ◌&&◌, eqb, ltb, leb, get_or, Err}
 use Rattle.std.proofs.Common.{sym, ap, ◌∙◌, true≢false, arith, le-leb, eqb-true, eq-eqb, ltb-true, ltb-false}
 use Rattle.std.proofs.lemmas.Bool.{lt-leb}
 use Rattle.bounds.specs.Bounds.{byte_limit}
-use Rattle.bounds.specs.Refusals.{refuse}
-use Rattle.bounds.specs.declared.Why.TheVariants.{Accepted, Refused}
+use Rattle.bounds.specs.Refusals.{refuse, accepted}
 use Rattle.bounds.specs.declared.Refusal.TheVariants.{Fit}
 use Rattle.growth.specs.declared.Step.{Step}
 use Rattle.growth.specs.declared.Growth.{Growth}
@@ -123,16 +122,16 @@ not-false true y e h = sym e
 not-false false y e h = absurd (true≢false h)
 
 -- a step, by what comes in
-pub step-refused : (g : Growth) → fits_growth g ≡ false → step_of g ≡ record { why = Refused Fit; growth = g; size = 0 }
+pub step-refused : (g : Growth) → fits_growth g ≡ false → step_of g ≡ record { why = Err Fit; growth = g; size = 0 }
 unfolding step_of step_why refuse
 step-refused g h = rw h
 
-pub step-fixed : (g : Growth) (n : ℕ) → g ≡ Fixed n → fits_growth g ≡ true → step_of g ≡ record { why = Accepted; growth = Fixed n; size = n }
+pub step-fixed : (g : Growth) (n : ℕ) → g ≡ Fixed n → fits_growth g ≡ true → step_of g ≡ record { why = accepted; growth = Fixed n; size = n }
 unfolding step_of step_why refuse
 step-fixed g n e h = rw (h, e)
 
 pub step-doubling : (g : Growth) (s m : ℕ) → g ≡ Doubling s → fits_growth g ≡ true → m ≡ next_size s
-    → step_of g ≡ record { why = Accepted; growth = Doubling m; size = m }
+    → step_of g ≡ record { why = accepted; growth = Doubling m; size = m }
 unfolding step_of step_why refuse
 step-doubling g s m e h k = rw (h, e, k)
 

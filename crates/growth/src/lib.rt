@@ -5,7 +5,7 @@ ghost use Rattle.std.specs.Prelude.{◌≡◌};
 ghost use Rattle.growth.specs.Growing.{fits_growth, step_of};
 ghost use Rattle.growth.specs.declared.Growth.TheVariants.{Doubling};
 
-use bounds::{Refusal, Why};
+use bounds::Refusal;
 
 // Where doubling starts; not on the sheet.
 pub const START_SIZE: usize = 8192;
@@ -21,9 +21,11 @@ pub enum Growth {
     Doubling(usize),
 }
 
+// A step: why there is none, the state after it, the size. A record and no Result: the laws `same_above` and `size_none` speak of the state and the size of
+// a refused one.
 #[derive(Clone, Copy)]
 pub struct Step {
-    pub why: Why,
+    pub why: Result<(), Refusal>,
     pub growth: Growth,
     pub size: usize,
 }
@@ -68,21 +70,21 @@ impl Growth {
     {
         if !self.fits() {
             return Step {
-                why: Why::Refused(Refusal::Fit),
+                why: Err(Refusal::Fit),
                 growth: self,
                 size: 0,
             };
         }
         match self {
             Growth::Fixed(n) => Step {
-                why: Why::Accepted,
+                why: Ok(()),
                 growth: self,
                 size: n,
             },
             Growth::Doubling(s) => {
                 let n = next_size(s);
                 Step {
-                    why: Why::Accepted,
+                    why: Ok(()),
                     growth: Growth::Doubling(n),
                     size: n,
                 }

@@ -1,9 +1,25 @@
 -- Laws of the batches: a sum by one more, values that lie in the bytes or don't, a copy by one part more. Assumes nothing.
-use Rattle.std.proofs.Common.{◌≡◌, ℕ, ◌+◌, ◌-◌, ◌*◌, ◌/◌, ◌%◌, ◌^◌, ◌<◌, ◌≤◌, List, length, sym, refl, ◌∙◌, add-zero, add-mul, one-mul, mul-zero, div-add-mod', add-one, arith}
-use native.Mathlib.Nat.{div-eq_of_lt-le}
+use Rattle.std.proofs.Common.{◌≡◌, ℕ, ◌+◌, ◌*◌, ◌/◌, ◌%◌, ◌^◌, ◌<◌, ◌≤◌, List, length, sym, refl, ◌∙◌, add-mul, one-mul, mul-zero, add-one, arith}
+use Rattle.std.proofs.Math.Nat.{div-mul-le_self, mul-le-mul_right}
 use Rattle.basis.specs.Pick.{le_yes, le-no}
 use Rattle.copy.specs.Over.{copied_up_to}
-use Rattle.leaf_exports.specs.Batches.{summed, if_in}
+use Rattle.std.specs.Prelude.{Bool, true, false}
+use Rattle.std.specs.Ordering.{is_lt}
+use Rattle.std.proofs.Common.{Less, Equal, Greater}
+use mir.Val.{bool_byte}
+use Rattle.basis.specs.Pick.{pick}
+use Rattle.order.specs.Order.{Order, ordering}
+use Rattle.leaf_exports.specs.Batches.{summed, if_in, one_if_less}
+
+-- a truth as a number
+pub one-if : (t : Bool) → bool_byte t ≡ pick t 1 0
+one-if true = refl
+one-if false = refl
+
+pub one-less : (o : Order) → bool_byte (is_lt o) ≡ one_if_less (ordering o)
+one-less Less = refl
+one-less Equal = refl
+one-less Greater = refl
 
 pub summed-more : (f : ℕ → ℕ) (n x s r : ℕ) → s ≡ summed f n → x ≡ f n → r ≡ (s + x) % 2 ^ 64 → r ≡ summed f (n + 1)
 unfolding summed
@@ -26,13 +42,14 @@ module _ (l : List ℕ) (s m e x : ℕ) where
   unfolding if_in
   both-in y h k g q = le_yes s m _ _ y h (le_yes m e _ _ y k (le_yes e (length l) _ _ y g q))
 
--- whole parts of n up to where no further one fits
-pub parts-end : (n m o : ℕ) → o % n ≡ 0 → o ≤ m → m - o < n → o ≡ m / n * n
-parts-end n m o z h k =
-    let e : o / n * n ≡ o = sym (add-zero (o / n * n)) ∙ rw z at (div-add-mod' o n) in
-    let more : (o / n + 1) * n ≡ o + n = add-mul (o / n) 1 n ∙ rw (e, one-mul n) in
-    let q : m / n ≡ o / n = div-eq_of_lt-le {k = o / n} n {m = m} (rw e h) (rw more (omega arith)) in
-    rw (q, e)
+-- a whole part of n ends within m, and the next begins where it ends
+pub part-in : (n m k : ℕ) → k < m / n → k * n + n ≤ m
+part-in n m k h =
+    let next : (k + 1) * n ≡ k * n + n = add-mul k 1 n ∙ rw (one-mul n) in
+    omega (arith, next, mul-le-mul_right {m = k + 1} {n = m / n} n (omega arith), div-mul-le_self m n)
+
+pub part-next : (n k : ℕ) → k * n + n ≡ (k + 1) * n
+part-next n k = sym (add-mul k 1 n ∙ rw (one-mul n))
 
 pub no-parts : (d s : List ℕ) (n m : ℕ) → n ≡ 0 → copied_up_to d s 0 ≡ copied_up_to d s (m / n * n)
 no-parts d s n m e = rw (e, mul-zero (m / 0))

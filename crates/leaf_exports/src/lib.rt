@@ -19,11 +19,9 @@ pub extern "C" fn leaf_count_nulls(map: &[u8], rows: usize, times: usize) -> u64
         return 0;
     }
     let mut sum: u64 = 0;
-    let mut k = 0;
-    while k < times {
+    for k in 0..times {
         let n = null_bits::count_nulls(map, true, k % 64, rows);
-        sum = std::num::wrapping_add_u64(sum, n as u64);
-        k += 1;
+        sum = sum.wrapping_add(n as u64);
     }
     sum
 }
@@ -36,29 +34,11 @@ pub extern "C" fn leaf_copy_parts(src: &[u8], dst: &mut [u8], n: usize)
     if n == 0 {
         return;
     }
-    let room = basis::least(src.len(), dst.len());
-    let mut o = 0;
-    while n <= room - o {
-        let e = o + n;
-        copy::copy(&src[o..e], &mut dst[o..]);
-        o = e;
+    let room = src.len().min(dst.len());
+    for k in 0..room / n {
+        let o = k * n;
+        copy::copy(&src[o..o + n], &mut dst[o..]);
     }
-}
-
-fn one_if_less(o: order::Order) -> u64
-    ensures { result ≡ one_if_less (ordering o) }
-{
-    match o {
-        order::Order::Less => 1,
-        order::Order::Equal => 0,
-        order::Order::Greater => 0,
-    }
-}
-
-fn one_if(yes: bool) -> u64
-    ensures { result ≡ pick yes 1 0 }
-{
-    if yes { 1 } else { 0 }
 }
 
 // 1 where the value from s to m is the same as the one from m to e, or below it; 0 where it isn't, or one isn't in the bytes.
@@ -75,9 +55,10 @@ fn pair_in(bytes: &[u8], s: usize, m: usize, e: usize, sameness: bool) -> u64
         return 0;
     }
     if sameness {
-        return one_if(order::same(&bytes[s..m], &bytes[m..e]));
+        u64::from(order::same(&bytes[s..m], &bytes[m..e]))
+    } else {
+        u64::from(order::cmp(&bytes[s..m], &bytes[m..e]).is_lt())
     }
-    one_if_less(order::cmp(&bytes[s..m], &bytes[m..e]))
 }
 
 // How many values are the same as the next one, or below it: value k goes from ends[k] to ends[k + 1].
@@ -85,16 +66,10 @@ fn pair_in(bytes: &[u8], s: usize, m: usize, e: usize, sameness: bool) -> u64
 pub extern "C" fn leaf_count_pairs(bytes: &[u8], ends: &[usize], sameness: bool) -> u64
     ensures { result ≡ pairs_batch bytes.now ends.now sameness }
 {
-    let n = ends.len();
-    if n < 2 {
-        return 0;
-    }
     let mut sum: u64 = 0;
-    let mut k = 0;
-    while k < n - 2 {
+    for k in 0..ends.len().saturating_sub(2) {
         let x = pair_in(bytes, ends[k], ends[k + 1], ends[k + 2], sameness);
-        sum = std::num::wrapping_add_u64(sum, x);
-        k += 1;
+        sum = sum.wrapping_add(x);
     }
     sum
 }

@@ -19,12 +19,9 @@ pub fn put_bytes(out: &mut [u8], at: usize, s: &[u8]) -> usize
     requires { at + length s.now ≤ length out.old }
     ensures { Put out.old out.new at result s.now }
 {
-    let mut k = 0;
-    while k < s.len() {
-        out[at + k] = s[k];
-        k += 1;
-    }
-    at + k
+    let end = at + s.len();
+    out[at..end].copy_from_slice(s);
+    end
 }
 
 // A number's digits more.
@@ -65,10 +62,8 @@ pub fn row_part(out: &mut [u8], x: &[u8], from: usize, to: usize) -> usize
     ensures { Rest out.new result (text_from x.now to) (text_from x.now from) }
 {
     let mut w = 0;
-    let mut k = from;
-    while k < to {
+    for k in from..to {
         w = put_item(out, w, k, x[k]);
-        k += 1;
     }
     w
 }

@@ -2,12 +2,15 @@
 #![tactic(auto)]
 
 ghost use Rattle.std.specs.Prelude.{◌≡◌};
-ghost use Rattle.column.specs.Lent.{lent_of};
+ghost use Rattle.column.specs.Lent.{lent};
 ghost use Rattle.marks.specs.Marking.{mark_at, marks_of};
 ghost use Rattle.numbers.specs.Numbers.{column_from};
 ghost use Rattle.mark_exports.specs.MarksTold.{mark_told, marks_told};
 
-use marks::{Marked, Tallied};
+use bounds::Refusal;
+use codes::Mark;
+use column::Buffers;
+use marks::Tally;
 use numbers::Counted;
 
 // How many rows have each mark: 0 or the refusal's number, the row that refusal 11 names, the nulls, the rows that are no codes, the codes, the dates.
@@ -22,26 +25,26 @@ pub struct Marks {
     pub dates: usize,
 }
 
-fn told_mark(m: Marked) -> Counted
+fn told_mark(m: Result<Mark, Refusal>) -> Counted
     ensures { result ≡ mark_told m }
 {
     match m {
-        Marked::Is(x) => return Counted {
+        Ok(x) => Counted {
             refused: 0,
             number: codes::number_of(x),
         },
-        Marked::Refused(r) => return Counted {
-            refused: bounds::number(r) as u64,
+        Err(r) => Counted {
+            refused: r.number() as u64,
             number: 0,
         },
     }
 }
 
-fn told_marks(t: Tallied) -> Marks
+fn told_marks(t: Result<Tally, Refusal>) -> Marks
     ensures { result ≡ marks_told t }
 {
     match t {
-        Tallied::Are(n) => return Marks {
+        Ok(n) => Marks {
             refused: 0,
             row: 0,
             nulls: n.nulls,
@@ -49,9 +52,9 @@ fn told_marks(t: Tallied) -> Marks
             codes: n.codes,
             dates: n.dates,
         },
-        Tallied::Refused(r) => return Marks {
-            refused: bounds::number(r) as u64,
-            row: bounds::row(r),
+        Err(r) => Marks {
+            refused: r.number() as u64,
+            row: r.row(),
             nulls: 0,
             others: 0,
             codes: 0,
@@ -71,15 +74,17 @@ pub extern "C" fn tambuyeel_mark<'a>(
     column: &[usize; 5],
     row: usize,
 ) -> Counted
-    ensures { result ≡ mark_told (mark_at (lent_of views.entry bytes.entry starts.entry lens.entry nulls.entry)
+    ensures { result ≡ mark_told (mark_at (lent views.now bytes.now starts.now lens.now nulls.now)
         (column_from column.now) row) }
 {
     told_mark(marks::mark_at(
-        views,
-        bytes,
-        starts,
-        lens,
-        nulls,
+        Buffers {
+            views,
+            bytes,
+            starts,
+            lens,
+            nulls,
+        },
         numbers::column_of(column),
         row,
     ))
@@ -95,15 +100,17 @@ pub extern "C" fn tambuyeel_count_marks<'a>(
     nulls: &[u8],
     column: &[usize; 5],
 ) -> Marks
-    ensures { result ≡ marks_told (marks_of (lent_of views.entry bytes.entry starts.entry lens.entry nulls.entry)
+    ensures { result ≡ marks_told (marks_of (lent views.now bytes.now starts.now lens.now nulls.now)
         (column_from column.now)) }
 {
     told_marks(marks::count_marks(
-        views,
-        bytes,
-        starts,
-        lens,
-        nulls,
+        Buffers {
+            views,
+            bytes,
+            starts,
+            lens,
+            nulls,
+        },
         numbers::column_of(column),
     ))
 }

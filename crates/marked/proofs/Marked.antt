@@ -1,4 +1,5 @@
 -- What is written of each row is its mark and the line that came in. Assumes nothing.
+use Rattle.std.specs.Prelude.{Ok}
 use mathlib.Core.Path.{◌≡◌, refl, ap, ◌∙◌}
 use mathlib.Core.Bool.{Bool, true, false, not, true≢false}
 use mathlib.Core.List.{List, ◌∷◌, [], ◌++◌, map}
@@ -15,7 +16,6 @@ use Rattle.validity.specs.Check.{why_invalid}
 use Rattle.promise.specs.Calls.{Cell}
 use Rattle.promise.specs.Kept.{Shown}
 use Rattle.promise.proofs.Kept.{kept}
-use Rattle.marks.specs.declared.Tallied.TheVariants.{Are}
 use Rattle.shelf.specs.declared.Line.TheVariants.{Null}
 use Rattle.shelf.specs.Lines.{lines, says, null_mark}
 use Rattle.shelf.specs.Adding.{built, shelf_lent, shelf_column}
@@ -73,7 +73,7 @@ module _ (s vs bs ss ns ms ps : List ℕ) (e : Enough vs bs ss ns ms) (g : GoodI
       let r = told.shows.rows in
       record {
         rows = lines_are l c f h 0 c.rows (omega arith) ∙ ap mark_lines r;
-        counts = tally-is l c f h ∙ ap (λ z. Are (tally_in z)) r;
+        counts = tally-is l c f h ∙ ap (λ z. Ok (tally_in z)) r;
         whole = all-marks (rows_said s) ∙ length-map (lines s) row_said;
         answers = column-is l c f h ∙ (ap marked_rows r ∙ accepted-is);
       }

@@ -1,4 +1,5 @@
 -- The marks of a column whose rows are all reached are those of its rows. Assumes nothing.
+use Rattle.std.specs.Prelude.{Ok}
 use mathlib.Core.Path.{◌≡◌, refl, sym, ap, ◌∙◌}
 use mathlib.Core.Bool.{Bool, true, false}
 use mathlib.Core.List.{List, [], ◌∷◌, ◌++◌}
@@ -8,9 +9,7 @@ use native.Mathlib.Omega.{arith}
 use borrow.Author.Tests.{le-ltb}
 use lib.ListN.{length}
 use Rattle.basis.specs.Pick.{pick}
-use Rattle.bounds.specs.Refusals.{refuse}
-use Rattle.bounds.specs.declared.Why.{Why}
-use Rattle.bounds.specs.declared.Why.TheVariants.{Accepted}
+use Rattle.bounds.specs.Refusals.{refuse, accepted, Why, answered}
 use Rattle.codes.specs.declared.Mark.{Mark}
 use Rattle.codes.specs.declared.Mark.TheVariants.{Null, Other, Code, Date}
 use Rattle.column.specs.declared.Column.{Column}
@@ -18,10 +17,9 @@ use Rattle.column.specs.Lent.{Lent, fits}
 use Rattle.column.specs.Meaning.{shown_at, row_valid}
 use Rattle.column.specs.Truth.{reachable_at}
 use Rattle.column.proofs.LowestLaws.{lowest-none}
-use Rattle.reading.specs.Reading.{why_run, why_row, why_value, bit_when, bit_of, value_at}
+use Rattle.reading.specs.Reading.{why_run, why_row, why_value, bit_of, value_at}
 use Rattle.reading.proofs.ReadingLaws.{value-reached}
-use Rattle.marks.specs.declared.Tallied.TheVariants.{Are}
-use Rattle.marks.specs.Marking.{row_mark, marked_when, mark_at, why_marks, is_mark, count_mark, marks_of}
+use Rattle.marks.specs.Marking.{row_mark, mark_at, why_marks, is_mark, count_mark, marks_of}
 use Rattle.whole.specs.Answer.{ShelfRow, row, bit_valid, shelf_row_at, rows_from, shelf_rows}
 use Rattle.marking.specs.Text.{mark_line, mark_said, mark_lines, marks_in, tally_in, tally_lines, marked_rows, mark_shown, mark_line_at, mark_lines_at, tally_shown, marked_column}
 
@@ -44,14 +42,14 @@ all-marks (r ∷ rs) = omega (arith, one-mark (mark_said r), all-marks rs)
 -- ---- a column
 
 module _ (l : Lent) (c : Column) (f : fits l c ≡ true) (g : (r : ℕ) → r < c.rows → reachable_at l c r ≡ true) where
-  accepts : (r : ℕ) → r < c.rows → why_value l c r ≡ Accepted
+  accepts : (r : ℕ) → r < c.rows → why_value l c r ≡ accepted
   accepts r h = sym (value-reached l c r f h (g r h))
 
-  whole_row : (r : ℕ) → r < c.rows → why_row l c r ≡ Accepted
+  whole_row : (r : ℕ) → r < c.rows → why_row l c r ≡ accepted
   unfolding why_row why_run refuse
   whole_row r h = rw (f, le-ltb c.rows (r + 1) (omega arith))
 
-  bit_is : (t : Bool) → bit_valid (bit_when Accepted t) ≡ t
+  bit_is : (t : Bool) → bit_valid (answered accepted t) ≡ t
   bit_is true = refl
   bit_is false = refl
 
@@ -65,7 +63,7 @@ module _ (l : Lent) (c : Column) (f : fits l c ≡ true) (g : (r : ℕ) → r < 
 
   shown-is : (r : ℕ) → r < c.rows → mark_shown (mark_at l c r) ≡ mark_said (shelf_row_at l c r)
   unfolding mark_at
-  shown-is r h = ap (λ (w : Why). mark_shown (marked_when w (row_mark l c r))) (accepts r h) ∙ mark-is r h
+  shown-is r h = ap (λ (w : Why). mark_shown (answered w (row_mark l c r))) (accepts r h) ∙ mark-is r h
 
   pub lines_are : (r n : ℕ) → r + n ≤ c.rows → mark_lines_at l c r n ≡ mark_lines (rows_from l c r n)
   unfolding mark_lines_at mark_lines rows_from
@@ -93,13 +91,13 @@ module _ (l : Lent) (c : Column) (f : fits l c ≡ true) (g : (r : ℕ) → r < 
       let z : count_mark l c m (0 + c.rows) ≡ count_mark l c m c.rows = ap (count_mark l c m) (zero-add c.rows) in
       omega (arith, a, z)
 
-  why-is : why_marks l c ≡ Accepted
+  why-is : why_marks l c ≡ accepted
   unfolding why_marks refuse
-  why-is = rw f (sym (lowest-none (reachable_at l c) c.rows Accepted g))
+  why-is = rw f (sym (lowest-none (reachable_at l c) c.rows accepted g))
 
-  pub tally-is : marks_of l c ≡ Are (tally_in (shelf_rows l c))
+  pub tally-is : marks_of l c ≡ Ok (tally_in (shelf_rows l c))
   unfolding marks_of
-  tally-is = rw why-is (λ i. Are (record { nulls = count-is Null i; others = count-is Other i; codes = count-is Code i; dates = count-is Date i }))
+  tally-is = rw why-is (λ i. Ok (record { nulls = count-is Null i; others = count-is Other i; codes = count-is Code i; dates = count-is Date i }))
 
   pub column-is : marked_column l c ≡ marked_rows (shelf_rows l c)
   unfolding marked_column marked_rows

@@ -1,5 +1,6 @@
 -- Each piece, with what is left after it, is what was left. Assumes nothing.
-use Rattle.std.specs.Prelude.{◌≡◌, refl, Bool, true, false, length}
+use Rattle.bounds.specs.declared.Refusal.{Refusal}
+use Rattle.std.specs.Prelude.{◌≡◌, refl, Bool, true, false, length, Result}
 use Rattle.std.proofs.Common.{sym, ◌∙◌, subst, lt-ltb, le-ltb, length-append, length-take, length-drop}
 use Rattle.std.proofs.Math.Path.{ap}
 use mathlib.Core.List.{List, [], ◌∷◌, ◌++◌, append_assoc, append-nil}
@@ -14,9 +15,7 @@ use Rattle.codes.specs.declared.Mark.TheVariants.{Null, Other, Code, Date}
 use Rattle.column.specs.declared.Column.{Column}
 use Rattle.column.specs.Lent.{Lent}
 use Rattle.reading.specs.Reading.{value_at}
-use Rattle.marks.specs.declared.Marked.{Marked}
 use Rattle.marks.specs.declared.Tally.{Tally}
-use Rattle.marks.specs.declared.Tallied.{Tallied}
 use Rattle.marks.specs.Marking.{mark_at, marks_of}
 use Rattle.listing.specs.Text.{refused_line}
 use Rattle.listing.specs.Put.{HoldsText}
@@ -108,12 +107,12 @@ module _ (l : Lent) (c : Column) where
 -- ---- each piece as a function writes it
 
 module _ (l : Lent) (c : Column) {out : List ℕ} {n : ℕ} where
-  pub wrote-tally : (k : ℕ) {t : Tally} {d : Tallied} → c.rows ≤ k → t ≡ tally_shown d → d ≡ marks_of l c → HoldsText out n (tally_lines t)
+  pub wrote-tally : (k : ℕ) {t : Tally} {d : Result Tally Refusal} → c.rows ≤ k → t ≡ tally_shown d → d ≡ marks_of l c → HoldsText out n (tally_lines t)
       → WroteMarks l c (marks_from l c k) out (piece End n)
   wrote-tally k {t} {d} h e f p = wrote-last l c _ p (ap tally_lines (e ∙ ap tally_shown f) ∙ from_end l c k h)
 
   module _ (k : ℕ) (h : k < c.rows) where
-    pub wrote-name : {m : Mark} {d : Marked} → m ≡ mark_shown d → d ≡ mark_at l c k → HoldsText out n (mark_name m)
+    pub wrote-name : {m : Mark} {d : Result Mark Refusal} → m ≡ mark_shown d → d ≡ mark_at l c k → HoldsText out n (mark_name m)
         → WroteMarks l c (marks_from l c k) out (piece (Part k 0) n)
     wrote-name {m} {d} e f p =
         wrote l c _ p (Part k 0) (ap (λ (z : Mark). mark_name z ++ bytes_from l c k 0) (e ∙ ap mark_shown f) ∙ from-name l c k h) (name-some m)

@@ -1,5 +1,7 @@
 -- The program's answer: the bytes that it writes, of the bytes that it reads. Assumes nothing.
-use Rattle.std.specs.Prelude.{List, [], ◌∷◌, ◌++◌, map, ℕ, zero, suc, ◌+◌, ltb, eqb, length}
+use Rattle.bounds.specs.declared.Refusal.{Refusal}
+use Rattle.std.specs.Prelude.{List, [], ◌∷◌, ◌++◌, map, ℕ, zero, suc, ◌+◌, ltb, eqb, length, Result}
+use Rattle.std.specs.Result.{result_unwrap_or}
 use Rattle.basis.specs.Pick.{pick}
 use Rattle.codes.specs.Ascii.{ascii}
 use Rattle.codes.specs.declared.Mark.{Mark}
@@ -8,11 +10,7 @@ use Rattle.codes.specs.Marks.{mark_of}
 use Rattle.column.specs.declared.Column.{Column}
 use Rattle.column.specs.Lent.{Lent}
 use Rattle.reading.specs.Reading.{value_at}
-use Rattle.marks.specs.declared.Marked.{Marked}
-use Rattle.marks.specs.declared.Marked.TheVariants as marked
 use Rattle.marks.specs.declared.Tally.{Tally}
-use Rattle.marks.specs.declared.Tallied.{Tallied}
-use Rattle.marks.specs.declared.Tallied.TheVariants as tallied
 use Rattle.marks.specs.Marking.{mark_at, is_mark, marks_of}
 use Rattle.listing.specs.Text.{number_line, refused_line}
 use Rattle.shelf.specs.Lines.{lines, first_bad_line}
@@ -66,9 +64,8 @@ marked_answer s = pick (ltb input_most (length s)) (refused_line 0) (marked_line
 -- ---- the same of a column
 
 -- a row that is refused has no value, and is no code
-abbrev pub mark_shown : Marked → Mark
-mark_shown (marked.Is m) = m
-mark_shown (marked.Refused r) = Other
+abbrev pub mark_shown : Result Mark Refusal → Mark
+mark_shown m = result_unwrap_or m Other
 
 abbrev pub mark_line_at : Lent → Column → ℕ → List ℕ
 mark_line_at l c r = mark_line (mark_shown (mark_at l c r)) (value_at l c r)
@@ -79,9 +76,11 @@ mark_lines_at l c r zero = []
 mark_lines_at l c r (suc n) = mark_line_at l c r ++ mark_lines_at l c (suc r) n
 
 -- a column that is refused has no counts
-abbrev pub tally_shown : Tallied → Tally
-tally_shown (tallied.Are t) = t
-tally_shown (tallied.Refused r) = record { nulls = 0; others = 0; codes = 0; dates = 0 }
+abbrev pub no_tally : Tally
+no_tally = record { nulls = 0; others = 0; codes = 0; dates = 0 }
+
+abbrev pub tally_shown : Result Tally Refusal → Tally
+tally_shown t = result_unwrap_or t no_tally
 
 unfoldable pub marked_column : Lent → Column → List ℕ
 marked_column l c = mark_lines_at l c 0 c.rows ++ tally_lines (tally_shown (marks_of l c))

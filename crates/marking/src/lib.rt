@@ -4,12 +4,12 @@
 ghost use Rattle.std.specs.Prelude.{◌≡◌};
 ghost use Rattle.column.specs.Lent.{lent_of};
 ghost use Rattle.listing.specs.Put.{HoldsText};
-ghost use Rattle.marking.specs.Text.{mark_name, mark_shown, tally_lines, tally_shown};
+ghost use Rattle.marking.specs.Text.{mark_name, tally_lines};
 ghost use Rattle.marking.specs.Left.{marks_from, bytes_from, marks_left, WroteMarks};
 
 use codes::Mark;
-use column::Column;
-use marks::{Marked, Tallied, Tally};
+use column::{Buffers, Column};
+use marks::Tally;
 use whole::{Piece, Place};
 
 // The four counts.
@@ -34,54 +34,27 @@ fn put_name(out: &mut [u8; whole::ROOM], m: Mark) -> usize
     }
 }
 
-// A row's mark, no code where it is refused.
-fn mark(m: Marked) -> Mark
-    ensures { result ≡ mark_shown m }
-{
-    match m {
-        Marked::Is(k) => k,
-        Marked::Refused(r) => Mark::Other,
-    }
-}
-
-// A column's counts, none where they are refused.
-fn tally(t: Tallied) -> Tally
-    ensures { result ≡ tally_shown t }
-{
-    match t {
-        Tallied::Are(n) => n,
-        Tallied::Refused(r) => Tally {
-            nulls: 0,
-            others: 0,
-            codes: 0,
-            dates: 0,
-        },
-    }
-}
+// The counts of a column that is refused.
+const NO_TALLY: Tally = Tally {
+    nulls: 0,
+    others: 0,
+    codes: 0,
+    dates: 0,
+};
 
 // The name of row k's mark, or the four counts where the column has no such row.
-fn line_piece<'a>(
-    views: &'a [u8],
-    bytes: &'a [u8],
-    starts: &[usize],
-    lens: &[usize],
-    nulls: &[u8],
-    c: Column,
-    k: usize,
-    out: &mut [u8; whole::ROOM],
-) -> Piece
-    ensures { WroteMarks (lent_of views.entry bytes.entry starts.entry lens.entry nulls.entry) c
-        (marks_from (lent_of views.entry bytes.entry starts.entry lens.entry nulls.entry) c k) out.new result }
+fn line_piece(l: Buffers<'_, '_>, c: Column, k: usize, out: &mut [u8; whole::ROOM]) -> Piece
+    ensures { WroteMarks (lent_of l.entry) c
+        (marks_from (lent_of l.entry) c k) out.new result }
 {
-    let rows = c.rows;
-    if rows <= k {
-        let t = tally(marks::count_marks(views, bytes, starts, lens, nulls, c));
+    if c.rows <= k {
+        let t = marks::count_marks(l, c).unwrap_or(NO_TALLY);
         return Piece {
             written: put_tally(out, t),
             place: Place::End,
         };
     }
-    let m = mark(marks::mark_at(views, bytes, starts, lens, nulls, c, k));
+    let m = marks::mark_at(l, c, k).unwrap_or(Mark::Other);
     Piece {
         written: put_name(out, m),
         place: Place::Part(k, 0),
@@ -89,28 +62,23 @@ fn line_piece<'a>(
 }
 
 // Of row k, its bytes from byte `at` on, or its line end; nothing where the column has no such row.
-fn part_piece<'a>(
-    views: &'a [u8],
-    bytes: &'a [u8],
-    starts: &[usize],
-    lens: &[usize],
-    nulls: &[u8],
+fn part_piece(
+    l: Buffers<'_, '_>,
     c: Column,
     k: usize,
     at: usize,
     out: &mut [u8; whole::ROOM],
 ) -> Piece
-    ensures { WroteMarks (lent_of views.entry bytes.entry starts.entry lens.entry nulls.entry) c
-        (bytes_from (lent_of views.entry bytes.entry starts.entry lens.entry nulls.entry) c k at) out.new result }
+    ensures { WroteMarks (lent_of l.entry) c
+        (bytes_from (lent_of l.entry) c k at) out.new result }
 {
-    let rows = c.rows;
-    if rows <= k {
+    if c.rows <= k {
         return Piece {
             written: 0,
             place: Place::End,
         };
     }
-    let x = reading::value(views, bytes, starts, lens, nulls, c, k);
+    let x = reading::value(l, c, k);
     if x.len() <= at {
         return Piece {
             written: listing::put_bytes(out, 0, b"\n"),
@@ -125,27 +93,18 @@ fn part_piece<'a>(
 }
 
 // The next piece of an answer, at the start of out, and the place after it.
-pub fn next_piece<'a>(
-    views: &'a [u8],
-    bytes: &'a [u8],
-    starts: &[usize],
-    lens: &[usize],
-    nulls: &[u8],
-    c: Column,
-    p: Place,
-    out: &mut [u8; whole::ROOM],
-) -> Piece
-    ensures { WroteMarks (lent_of views.entry bytes.entry starts.entry lens.entry nulls.entry) c
-        (marks_left (lent_of views.entry bytes.entry starts.entry lens.entry nulls.entry) c p) out.new result }
+pub fn next_piece(l: Buffers<'_, '_>, c: Column, p: Place, out: &mut [u8; whole::ROOM]) -> Piece
+    ensures { WroteMarks (lent_of l.entry) c
+        (marks_left (lent_of l.entry) c p) out.new result }
 {
     match p {
         Place::Refused(n) => Piece {
             written: listing::put_refused(out, n),
             place: Place::End,
         },
-        Place::Opening => line_piece(views, bytes, starts, lens, nulls, c, 0, out),
-        Place::Line(k) => line_piece(views, bytes, starts, lens, nulls, c, k, out),
-        Place::Part(k, at) => part_piece(views, bytes, starts, lens, nulls, c, k, at, out),
+        Place::Opening => line_piece(l, c, 0, out),
+        Place::Line(k) => line_piece(l, c, k, out),
+        Place::Part(k, at) => part_piece(l, c, k, at, out),
         Place::End => Piece {
             written: 0,
             place: Place::End,

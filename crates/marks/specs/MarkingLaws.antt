@@ -1,5 +1,5 @@
 -- The mark of a row as it was looked for, and the tally row by row. Assumes nothing.
-use Rattle.std.specs.Prelude.{◌≡◌, Bool, true, false, List, [], length}
+use Rattle.std.specs.Prelude.{◌≡◌, Bool, true, false, List, [], length, Ok, Err, Result}
 use Rattle.std.proofs.Math.Path.{refl, sym, ap, ap₂}
 use Rattle.std.proofs.Common.{◌∙◌, add-zero, add-one, leb-true}
 use Rattle.std.proofs.Math.Bool.{not}
@@ -7,10 +7,8 @@ use Prim.Native.Nat.{ℕ, zero, suc, ◌+◌, ◌*◌, ◌/◌, ◌≤◌, ◌<�
 use native.Mathlib.Omega.{arith}
 use Rattle.basis.specs.Pick.{pick}
 use Rattle.bounds.specs.Bounds.{row_limit, row-limit-small}
-use Rattle.bounds.specs.Refusals.{is_accepted, if_accepted}
+use Rattle.bounds.specs.Refusals.{is_accepted, if_accepted, accepted, Why}
 use Rattle.bounds.specs.declared.Refusal.{Refusal}
-use Rattle.bounds.specs.declared.Why.{Why}
-use Rattle.bounds.specs.declared.Why.TheVariants.{Accepted, Refused}
 use Rattle.null_bits.specs.Bits as bits
 use Rattle.views.specs.View.{view_at}
 use Rattle.column.specs.declared.Block.{Block}
@@ -22,33 +20,30 @@ use Rattle.column.specs.Meaning.{shown_at, row_valid}
 use Rattle.column.specs.Spot.{spot_in, bytes_at, Lies}
 use Rattle.column.proofs.SpotLaws.{spot-shown}
 use Rattle.column.specs.Truth.{reach_by, is_inside}
-use Rattle.reading.specs.declared.Located.{Located}
-use Rattle.reading.specs.declared.Located.TheVariants as located
 use Rattle.reading.specs.Reading.{why_value, why_of, located_at, value_at}
 use Rattle.reading.proofs.ReadingLaws.{Readable, value-readable}
 use Rattle.reading.proofs.LocatedLaws.{located-why, located-lies, located-bytes, at_lies, at-bytes}
 use Rattle.codes.specs.declared.Mark.{Mark}
 use Rattle.codes.specs.declared.Mark.TheVariants.{Null, Other, Code, Date}
 use Rattle.codes.specs.Marks.{mark_of}
-use Rattle.marks.specs.declared.Marked.TheVariants as marked
 use Rattle.marks.specs.declared.Tally.{Tally}
 use Rattle.marks.specs.Marking.{row_mark, mark_at, is_mark, count_mark, tally_of}
 
 -- ---- a row's mark, by where its value was found; x is what a call that looked for it answered
 
-module _ (views bytes nulls : List ℕ) (table : List Block) (c : Column) (r : ℕ) (x : Located) (e : x
+module _ (views bytes nulls : List ℕ) (table : List Block) (c : Column) (r : ℕ) (x : Result Spot Refusal) (e : x
     ≡ located_at (buffers views bytes table nulls) c r) where
   abbrev l : Lent
   l = buffers views bytes table nulls
 
-  pub mark-no : (z : Refusal) → x ≡ located.Refused z → marked.Refused z ≡ mark_at l c r
+  pub mark-no : (z : Refusal) → x ≡ Err z → Err z ≡ mark_at l c r
   unfolding mark_at
   mark-no z f =
-      let w : why_value l c r ≡ Refused z = sym (located-why l c r x e) ∙ ap why_of f in
+      let w : why_value l c r ≡ Err z = sym (located-why l c r x e) ∙ ap why_of f in
       rw w
 
-  module _ (s : Spot) (f : x ≡ located.At s) where
-    found : why_value l c r ≡ Accepted
+  module _ (s : Spot) (f : x ≡ Ok s) where
+    found : why_value l c r ≡ accepted
     found = sym (located-why l c r x e) ∙ ap why_of f
 
     pub found-readable : Readable l c r
@@ -65,7 +60,7 @@ module _ (views bytes nulls : List ℕ) (table : List Block) (c : Column) (r : �
         ∙ ap (λ (w : Why). if_accepted w (shown_at l c r) []) found
 
     pub mark-is : (valid : Bool) → valid ≡ row_valid l c r → (m : Mark) → m ≡ pick valid (mark_of (bytes_at views bytes s)) Null
-        → marked.Is m ≡ mark_at l c r
+        → Ok m ≡ mark_at l c r
     unfolding mark_at row_mark
     mark-is valid v m g = rw (found, g, v, found-bytes)
 
@@ -127,6 +122,10 @@ module _ (l : Lent) (c : Column) where
   pub tally-none : tally 0 0 0 0 ≡ tally_of l c 0
   unfolding count_mark
   tally-none = refl
+
+  pub tally-empty : (t : Tally) → (t.nulls ≡ 0) × ((t.others ≡ 0) × ((t.codes ≡ 0) × (t.dates ≡ 0))) → t ≡ tally_of l c 0
+  unfolding count_mark
+  tally-empty t e = λ i. tally (e.0 i) (e.1.0 i) (e.1.1.0 i) (e.1.1.1 i)
 
   pub tally-more : (k : ℕ) (t x : Tally) (m : Mark) → t ≡ tally_of l c k → m ≡ row_mark l c k → x ≡ with_mark t m → x ≡ tally_of l c (k + 1)
   unfolding count_mark

@@ -16,18 +16,10 @@ ghost use Rattle.marks.specs.MarkingLaws.{with_mark, Room};
 
 use bounds::Refusal;
 use codes::Mark;
-use column::{Column, Seen, Spot};
-use reading::Located;
-
-// A row's mark that was asked for.
-#[derive(Clone, Copy)]
-pub enum Marked {
-    Is(Mark),
-    Refused(Refusal),
-}
+use column::{Buffers, Column, Seen, Spot};
 
 // How many rows have each mark.
-#[derive(Clone, Copy)]
+#[derive(Clone, Copy, Default)]
 pub struct Tally {
     pub nulls: usize,
     pub others: usize,
@@ -35,10 +27,31 @@ pub struct Tally {
     pub dates: usize,
 }
 
-#[derive(Clone, Copy)]
-pub enum Tallied {
-    Are(Tally),
-    Refused(Refusal),
+impl Tally {
+    // One more row of a mark.
+    pub fn with(self, m: Mark) -> Tally
+        requires { Room self }
+        ensures { result ≡ with_mark self m }
+    {
+        match m {
+            Mark::Null => Tally {
+                nulls: self.nulls + 1,
+                ..self
+            },
+            Mark::Other => Tally {
+                others: self.others + 1,
+                ..self
+            },
+            Mark::Code => Tally {
+                codes: self.codes + 1,
+                ..self
+            },
+            Mark::Date => Tally {
+                dates: self.dates + 1,
+                ..self
+            },
+        }
+    }
 }
 
 // The mark of a row whose value stands there: the bytes of a null row aren't asked.
@@ -47,33 +60,19 @@ fn mark_there<'a>(views: &'a [u8], bytes: &'a [u8], s: Spot, valid: bool) -> Mar
     ensures { result ≡ pick valid (mark_of (bytes_at views.now bytes.now s)) Null }
 {
     if valid {
-        return codes::mark_of(column::part_of(views, bytes, s));
+        codes::mark_of(column::part_of(views, bytes, s))
+    } else {
+        Mark::Null
     }
-    Mark::Null
 }
 
 // A row's mark. A view that isn't reachable is refused under a null too.
-pub fn mark_at<'a>(
-    views: &'a [u8],
-    bytes: &'a [u8],
-    starts: &[usize],
-    lens: &[usize],
-    nulls: &[u8],
-    c: Column,
-    row: usize,
-) -> Marked
-    ensures { result ≡ mark_at (lent_of views.entry bytes.entry starts.entry lens.entry nulls.entry) c row }
+pub fn mark_at(l: Buffers<'_, '_>, c: Column, row: usize) -> Result<Mark, Refusal>
+    ensures { result ≡ mark_at (lent_of l.entry) c row }
 {
-    let first = c.first;
-    let mapped = c.mapped;
-    let l = reading::locate(views, bytes, starts, lens, nulls, c, row);
-    match l {
-        Located::At(s) => {
-            let valid = null_bits::valid_at(nulls, mapped, first + row);
-            Marked::Is(mark_there(views, bytes, s, valid))
-        }
-        Located::Refused(r) => Marked::Refused(r),
-    }
+    let s = reading::locate(l, c, row)?;
+    let valid = null_bits::valid_at(l.nulls, c.mapped, c.first + row);
+    Ok(mark_there(l.views, l.bytes, s, valid))
 }
 
 // Whether a row is valid, where nothing is known of the map: a row past it isn't, nor one past the limit.
@@ -81,17 +80,15 @@ fn valid_in(nulls: &[u8], mapped: bool, first: usize, row: usize) -> bool
     ensures { first + row < row_limit → (mapped ≡ true → first + row < 8 * length nulls.now)
         → result ≡ bits.valid_at nulls.now mapped (first + row) }
 {
-    if bounds::ROW_LIMIT <= first {
-        return false;
-    }
-    if bounds::ROW_LIMIT - first <= row {
+    if bounds::ROW_LIMIT <= first || bounds::ROW_LIMIT - first <= row {
         return false;
     }
     let at = first + row;
     if nulls.len() <= at / 8 {
-        return !mapped;
+        !mapped
+    } else {
+        null_bits::valid_at(nulls, mapped, at)
     }
-    null_bits::valid_at(nulls, mapped, at)
 }
 
 // The same as `mark_at` by what the row sees of the table.
@@ -102,57 +99,13 @@ pub fn mark_with<'a>(
     c: Column,
     row: usize,
     s: Seen,
-) -> Marked
+) -> Result<Mark, Refusal>
     ensures { (table : List Block) → Sees table views.now (c.first + row) s
         → result ≡ mark_at (buffers views.now bytes.now table nulls.now) c row }
 {
-    let first = c.first;
-    let mapped = c.mapped;
-    let l = reading::locate_with(views, bytes, nulls, c, row, s);
-    match l {
-        Located::At(p) => {
-            let valid = valid_in(nulls, mapped, first, row);
-            Marked::Is(mark_there(views, bytes, p, valid))
-        }
-        Located::Refused(r) => Marked::Refused(r),
-    }
-}
-
-// One more row of a mark.
-fn add(t: Tally, m: Mark) -> Tally
-    requires { Room t }
-    ensures { result ≡ with_mark t m }
-{
-    let nulls = t.nulls;
-    let others = t.others;
-    let codes = t.codes;
-    let dates = t.dates;
-    match m {
-        Mark::Null => Tally {
-            nulls: nulls + 1,
-            others,
-            codes,
-            dates,
-        },
-        Mark::Other => Tally {
-            nulls,
-            others: others + 1,
-            codes,
-            dates,
-        },
-        Mark::Code => Tally {
-            nulls,
-            others,
-            codes: codes + 1,
-            dates,
-        },
-        Mark::Date => Tally {
-            nulls,
-            others,
-            codes,
-            dates: dates + 1,
-        },
-    }
+    let p = reading::locate_with(views, bytes, nulls, c, row, s)?;
+    let valid = valid_in(nulls, c.mapped, c.first, row);
+    Ok(mark_there(views, bytes, p, valid))
 }
 
 // One more row, whose value stands there. It asks for the mark itself, so that a pass over the rows has one call a row.
@@ -161,41 +114,28 @@ fn add_there<'a>(views: &'a [u8], bytes: &'a [u8], s: Spot, valid: bool, t: Tall
     ensures { result ≡ with_mark t (pick valid (mark_of (bytes_at views.now bytes.now s)) Null) }
 {
     if valid {
-        return add(t, codes::mark_of(column::part_of(views, bytes, s)));
+        t.with(codes::mark_of(column::part_of(views, bytes, s)))
+    } else {
+        t.with(Mark::Null)
     }
-    add(t, Mark::Null)
 }
 
 // How many rows have each mark. The lowest row whose view isn't reachable is refused, under a null too.
-pub fn count_marks<'a>(
-    views: &'a [u8],
-    bytes: &'a [u8],
-    starts: &[usize],
-    lens: &[usize],
-    nulls: &[u8],
-    c: Column,
-) -> Tallied
-    ensures { result ≡ marks_of (lent_of views.entry bytes.entry starts.entry lens.entry nulls.entry) c }
+pub fn count_marks<'a>(l: Buffers<'a, '_>, c: Column) -> Result<Tally, Refusal>
+    ensures { result ≡ marks_of (lent_of l.entry) c }
 {
-    if !column::fits(views, bytes, starts, lens, nulls, c) {
-        return Tallied::Refused(Refusal::Fit);
+    if !column::fits(l, c) {
+        return Err(Refusal::Fit);
     }
-    let mut t = Tally {
-        nulls: 0,
-        others: 0,
-        codes: 0,
-        dates: 0,
-    };
-    let mut k = 0;
-    while k < c.rows {
+    let mut t = Tally::default();
+    for k in 0..c.rows {
         let at = c.first + k;
-        let s = column::spot_at(views, bytes, starts, lens, c.blocks, at);
+        let s = column::spot_at(l, c.blocks, at);
         if !column::is_reached(s) {
-            return Tallied::Refused(Refusal::BadView(k));
+            return Err(Refusal::BadView(k));
         }
-        let valid = null_bits::valid_at(nulls, c.mapped, at);
-        t = add_there(views, bytes, s, valid, t);
-        k += 1;
+        let valid = null_bits::valid_at(l.nulls, c.mapped, at);
+        t = add_there(l.views, l.bytes, s, valid, t);
     }
-    Tallied::Are(t)
+    Ok(t)
 }

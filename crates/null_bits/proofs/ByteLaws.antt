@@ -4,7 +4,7 @@ use mathlib.Core.Bool.{Bool, true, false}
 use mathlib.Core.List.{List}
 use Prim.Native.Nat.{ℕ, zero, suc, ◌+◌, ◌-◌, ◌*◌, ◌/◌, ◌%◌, ◌^◌, ◌≤◌, ◌<◌}
 use native.Mathlib.Nat.{mod-lt, add_comm, mul_comm, div-one, zero-div, mod-eq_of_lt}
-use native.Mathlib.Numerals.{one-add, add-one}
+use native.Mathlib.Numerals.{one-add}
 use native.Mathlib.Omega.{arith}
 use borrow.Author.Tests.{eqb-true, eqb-false, ltb-true, ltb-false}
 use lib.Arith.{digits_lt}
@@ -12,7 +12,9 @@ use lib.Dec.{eqb, ltb}
 use lib.ListN.{length, get_or, set, length-set}
 use lib.Bits.{bit_and}
 use lib.Pow.{pow_pos, pow_mono, shl_exact, pow-add, shr-shr, mod-pow-add, field, mod-mod-pow, shr_mod}
-use lib.Seq.{get_or-set_same, set-set}
+use lib.Seq.{paste, paste-zero, paste-suc, get_or-set_same, set-set}
+use lib.ListN.{replicate}
+use Rattle.std.proofs.lemmas.List.{get_or-replicate, length-replicate}
 use Rattle.null_bits.specs.Bits.{bit_at, is_valid, put_bit, put_in, bit_number}
 use Rattle.null_bits.specs.Runs.{put_bits, put_bytes, put_run, digit}
 use Rattle.null_bits.proofs.RunLaws.{length-bits, bits-add, bits-same}
@@ -213,13 +215,17 @@ unfolding put_bytes
 length-bytes map i x zero = refl
 length-bytes map i x (suc n) = length-set (put_bytes map i x n) (i + n) x ∙ length-bytes map i x n
 
-pub bytes-none : (map : List ℕ) (i x : ℕ) → map ≡ put_bytes map i x 0
+-- bytes filled in a part
+pub bytes_filled : (map : List ℕ) (i x n : ℕ) → i + n ≤ length map → paste map i (replicate n x) n ≡ put_bytes map i x n
 unfolding put_bytes
-bytes-none map i x = refl
-
-pub bytes-more : (map out : List ℕ) (i x k : ℕ) → out ≡ put_bytes map i x k → set out (i + k) x ≡ put_bytes map i x (k + 1)
-unfolding put_bytes
-bytes-more map out i x k e = rw (e, add-one k)
+bytes_filled map i x n h = upto n (omega arith)
+  where
+    upto : (k : ℕ) → k ≤ n → paste map i (replicate n x) k ≡ put_bytes map i x k
+    upto zero g = sym (paste-zero map i (replicate n x))
+    upto (suc k) g =
+        let more : set (paste map i (replicate n x) k) (i + k) (get_or (replicate n x) k 0) ≡ paste map i (replicate n x) (suc k) =
+        paste-suc map i (replicate n x) k 0 (omega arith) (rw (length-replicate n x) g) in
+        sym more ∙ rw (get_or-replicate n k x 0 g, upto k (omega arith))
 
 module _ (x : ℕ) (v : Bool) (small : x < 2 ^ 8) (same : (j : ℕ) → j < 8 → digit x j ≡ v) where
   pub part-run : (map out : List ℕ) (row n : ℕ) → n < 8 → out ≡ put_bits map row (digit x) n → out ≡ put_run map row n v

@@ -1,5 +1,6 @@
 // Null bits: a row's bit read and written, and nulls counted over a run of rows by ones in masked bytes and words of the map.
-// Leaves: their callers know that the rows lie in the map. A column without a map has no nulls.
+// Leaves: their callers know that the rows lie in the map. A column without a map has no nulls; `mapped` says beside the map whether there is one, and
+// no Option does, since C's column lends it so and `count_nulls` and `copy_column` are stated, in specs and theorems, for both.
 #![tactic(auto)]
 
 ghost use Rattle.std.specs.Prelude.{◌≡◌, true, ◌+◌, ◌*◌, ◌/◌, ◌%◌, ◌^◌, ◌≤◌, ◌<◌, length};
@@ -20,10 +21,7 @@ pub fn valid_at(map: &[u8], mapped: bool, row: usize) -> bool
     requires { mapped ≡ true → row / 8 < length map.now }
     ensures { result ≡ valid_at map.now mapped row }
 {
-    if mapped {
-        return is_valid(map, row);
-    }
-    true
+    !mapped || is_valid(map, row)
 }
 
 // Appends the bit of a row: the bits of its byte below it are kept, and those above it are 0.
@@ -48,7 +46,7 @@ fn count_part(map: &[u8], i: usize, skip: u32, rows: u32) -> usize
     ensures { Counted map.now (8 * i + skip) rows result }
 {
     let part = ((map[i] as u32) >> skip) & ((1u32 << rows) - 1);
-    u32::count_ones(part) as usize
+    part.count_ones() as usize
 }
 
 // The valid rows of whole bytes from i on.
@@ -56,11 +54,9 @@ fn count_bytes(map: &[u8], i: usize, bytes: usize) -> usize
     requires { (i + bytes ≤ length map.now) × (8 * bytes < 2 ^ 64) }
     ensures { Counted map.now (8 * i) (8 * bytes) result }
 {
-    let mut n: usize = 0;
-    let mut k = 0;
-    while k < bytes {
-        n += u8::count_ones(map[i + k]) as usize;
-        k += 1;
+    let mut n = 0;
+    for byte in &map[i..i + bytes] {
+        n += byte.count_ones() as usize;
     }
     n
 }
@@ -70,11 +66,9 @@ fn count_words(map: &[u8], i: usize, words: usize) -> usize
     requires { (i + 8 * words ≤ length map.now) × (64 * words < 2 ^ 64) }
     ensures { Counted map.now (8 * i) (64 * words) result }
 {
-    let mut n: usize = 0;
-    let mut k = 0;
-    while k < words {
-        n += u64::count_ones(words::le64(map, i + 8 * k)) as usize;
-        k += 1;
+    let mut n = 0;
+    for k in 0..words {
+        n += words::le64(map, i + 8 * k).count_ones() as usize;
     }
     n
 }
@@ -113,7 +107,8 @@ pub fn count_nulls(map: &[u8], mapped: bool, first: usize, rows: usize) -> usize
     ensures { result ≡ count_nulls map.now mapped first rows }
 {
     if mapped {
-        return rows - count_valid(map, first, rows);
+        rows - count_valid(map, first, rows)
+    } else {
+        0
     }
-    0
 }

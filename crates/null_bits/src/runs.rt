@@ -40,10 +40,7 @@ fn put_byte(map: &mut [u8], row: usize, x: usize)
 fn all_bits(valid: bool) -> usize
     ensures { (result < 256) × ((j : ℕ) → j < 8 → digit result j ≡ valid) }
 {
-    if valid {
-        return 255;
-    }
-    0
+    if valid { 255 } else { 0 }
 }
 
 // Appends the first n bits of a number below 256, where they lie in one byte of the map.
@@ -66,11 +63,7 @@ fn put_bytes(map: &mut [u8], i: usize, bytes: usize, x: usize)
     requires { (i + bytes ≤ length map.old) × (x < 256) }
     ensures { map.new ≡ put_bytes map.old i x bytes }
 {
-    let mut k = 0;
-    while k < bytes {
-        map[i + k] = x as u8;
-        k += 1;
-    }
+    map[i..i + bytes].fill(x as u8);
 }
 
 // Appends one bit `rows` times, from row `first` on: up to the next whole byte, whole bytes, and the rest.
@@ -94,10 +87,8 @@ fn copy_few(map: &mut [u8], first: usize, src: &[u8], from: usize, rows: usize)
     requires { (first + rows ≤ 8 * length map.old) × (first + rows < 2 ^ 64) × (from + rows ≤ 8 * length src.now) × (from + rows < 2 ^ 64) }
     ensures { map.new ≡ copy_bits map.old first src.now from rows }
 {
-    let mut k = 0;
-    while k < rows {
+    for k in 0..rows {
         crate::put_bit(map, first + k, crate::is_valid(src, from + k));
-        k += 1;
     }
 }
 
@@ -106,12 +97,11 @@ pub fn copy_bits(map: &mut [u8], first: usize, src: &[u8], from: usize, rows: us
     requires { (first + rows ≤ 8 * length map.old) × (first + rows < 2 ^ 64) × (from + rows ≤ 8 * length src.now) × (from + rows < 2 ^ 64) }
     ensures { map.new ≡ copy_bits map.old first src.now from rows }
 {
-    let mut k = 0;
-    while 8 <= rows - k {
-        put_byte(map, first + k, byte_at(src, from + k));
-        k += 8;
+    for k in 0..rows / 8 {
+        put_byte(map, first + 8 * k, byte_at(src, from + 8 * k));
     }
-    copy_few(map, first + k, src, from + k, rows - k);
+    let done = rows / 8 * 8;
+    copy_few(map, first + done, src, from + done, rows - done);
 }
 
 // The same from a column, whose map may be absent: then each row is valid.

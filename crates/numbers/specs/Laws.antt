@@ -1,9 +1,7 @@
 -- Numbers as the code has them. Assumes nothing.
-use Rattle.std.specs.Prelude.{◌≡◌, refl, not, List, [], ◌∷◌, ℕ, eqb, get_or}
+use Rattle.std.specs.Prelude.{◌≡◌, refl, not, List, [], ◌∷◌, ℕ, eqb, get_or, Ok, Err}
 use Rattle.std.proofs.Common.{eq-eqb, ne_eqb}
-use Rattle.bounds.specs.Refusals.{why_number}
-use Rattle.bounds.specs.declared.Why.{Why}
-use Rattle.bounds.specs.declared.Why.TheVariants.{Accepted, Refused}
+use Rattle.bounds.specs.Refusals.{why_number, Why}
 use Rattle.column.specs.declared.Kind.{Kind}
 use Rattle.column.specs.declared.Kind.TheVariants.{Binary, Text}
 use Rattle.column.specs.declared.Column.{Column}
@@ -28,5 +26,5 @@ unfolding column_numbers
 column-numbers-are c k f a b = λ i. c.first ∷ c.rows ∷ c.blocks ∷ a i ∷ b i ∷ []
 
 pub told-number : (w : Why) → (why_told w).number ≡ why_number w
-told-number Accepted = refl
-told-number (Refused r) = refl
+told-number (Ok _) = refl
+told-number (Err r) = refl

@@ -1,9 +1,7 @@
 -- Columns, verdicts and places as the numbers that C and Rust see. Assumes nothing.
-use Rattle.std.specs.Prelude.{Bool, true, false, not, List, [], ◌∷◌, ℕ, eqb, get_or}
+use Rattle.std.specs.Prelude.{Bool, true, false, not, List, [], ◌∷◌, ℕ, eqb, get_or, Ok, Err}
 use Rattle.basis.specs.Pick.{pick}
-use Rattle.bounds.specs.Refusals.{number_of, row_named}
-use Rattle.bounds.specs.declared.Why.{Why}
-use Rattle.bounds.specs.declared.Why.TheVariants.{Accepted, Refused}
+use Rattle.bounds.specs.Refusals.{number_of, row_named, Why}
 use Rattle.column.specs.declared.Kind.{Kind}
 use Rattle.column.specs.declared.Kind.TheVariants.{Binary, Text}
 use Rattle.column.specs.declared.Column.{Column}
@@ -42,8 +40,8 @@ told n r = record { number = n; row = r }
 
 -- 0 where the call is accepted
 abbrev pub why_told : Why → Told
-why_told Accepted = told 0 0
-why_told (Refused r) = told (number_of r) (row_named r)
+why_told (Ok _) = told 0 0
+why_told (Err r) = told (number_of r) (row_named r)
 
 abbrev pub place : ℕ → ℕ → ℕ → ℕ → Place
 place refused buffer offset len = record { refused = refused; buffer = buffer; offset = offset; len = len }

@@ -5,7 +5,7 @@ ghost use Rattle.std.specs.Prelude.{◌≡◌};
 ghost use Rattle.bounds.specs.Refusals.{if_accepted};
 ghost use Rattle.numbers.specs.Numbers.{kind_from, column_from, kind_number, flag, column_numbers, why_told, place_of};
 
-use bounds::Why;
+use bounds::Refusal;
 use column::{Column, Kind, Spot};
 
 // A verdict: 0 or the refusal's number, and the row that refusal 11 names.
@@ -34,25 +34,27 @@ pub struct Place {
     pub len: usize,
 }
 
+// No From impl: `Kind` is another crate's type, and any number names a kind.
 pub fn kind_of(k: usize) -> Kind
     ensures { result ≡ kind_from k }
 {
-    if k == 0 {
-        return Kind::Binary;
+    match k {
+        0 => Kind::Binary,
+        _ => Kind::Text,
     }
-    Kind::Text
 }
 
 // A column by its five numbers.
 pub fn column_of(l: &[usize; 5]) -> Column
     ensures { result ≡ column_from l.now }
 {
+    let [first, rows, blocks, kind, mapped] = *l;
     Column {
-        first: l[0],
-        rows: l[1],
-        blocks: l[2],
-        kind: kind_of(l[3]),
-        mapped: l[4] != 0,
+        first,
+        rows,
+        blocks,
+        kind: kind_of(kind),
+        mapped: mapped != 0,
     }
 }
 
@@ -68,42 +70,38 @@ pub fn kind_number(k: Kind) -> usize
 pub fn flag_number(b: bool) -> usize
     ensures { result ≡ flag b }
 {
-    if b {
-        return 1;
-    }
-    0
+    usize::from(b)
 }
 
 pub fn column_numbers(c: Column) -> [usize; 5]
     ensures { result ≡ column_numbers c }
 {
-    let kind = c.kind;
     [
         c.first,
         c.rows,
         c.blocks,
-        kind_number(kind),
+        kind_number(c.kind),
         flag_number(c.mapped),
     ]
 }
 
 // The column's numbers after a finish: as they came where it is refused.
-pub fn hand(w: Why, c: Column, column: &mut [usize; 5])
+pub fn hand(w: Result<(), Refusal>, c: Column, column: &mut [usize; 5])
     ensures { column.new ≡ if_accepted w (column_numbers c) column.old }
 {
-    if bounds::is_accepted(w) {
+    if w.is_ok() {
         *column = column_numbers(c);
     }
 }
 
-pub fn told_why(w: Why) -> Told
+pub fn told_why(w: Result<(), Refusal>) -> Told
     ensures { result ≡ why_told w }
 {
     match w {
-        Why::Accepted => return Told { number: 0, row: 0 },
-        Why::Refused(r) => return Told {
-            number: bounds::number(r) as u64,
-            row: bounds::row(r),
+        Ok(()) => Told { number: 0, row: 0 },
+        Err(r) => Told {
+            number: r.number() as u64,
+            row: r.row(),
         },
     }
 }
@@ -112,25 +110,19 @@ pub fn place_of(s: Spot) -> Place
     ensures { result ≡ place_of s }
 {
     match s {
-        Spot::View(a, n) => return Place {
+        Spot::View(a, n) => Place {
             refused: 0,
             buffer: 0,
             offset: a,
             len: n,
         },
-        Spot::Data(a, n) => return Place {
+        Spot::Data(a, n) => Place {
             refused: 0,
             buffer: 1,
             offset: a,
             len: n,
         },
-        Spot::NoBlock => return Place {
-            refused: 0,
-            buffer: 0,
-            offset: 0,
-            len: 0,
-        },
-        Spot::Outside => return Place {
+        Spot::NoBlock | Spot::Outside => Place {
             refused: 0,
             buffer: 0,
             offset: 0,

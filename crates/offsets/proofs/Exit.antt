@@ -4,8 +4,7 @@ use mathlib.Core.Bool.{true}
 use mathlib.Core.List.{List, [], ◌∷◌}
 use Prim.Native.Nat.{ℕ}
 use lib.ListN.{length}
-use Rattle.bounds.specs.Refusals.{is_accepted}
-use Rattle.bounds.specs.declared.Why.{Why}
+use Rattle.bounds.specs.Refusals.{is_accepted, accepted, Why}
 use Rattle.column.specs.declared.Kind.{Kind}
 use Rattle.column.specs.Lent.{Lent, lent, table_of}
 use Rattle.laying.specs.Written.{front}

@@ -10,9 +10,8 @@ use lib.ListN.{length, take, drop, length-drop}
 use lib.Seq.{take-append_seam, length-take-le}
 use Rattle.basis.specs.Pick.{pick}
 use Rattle.bounds.specs.Bounds.{byte-limit-small}
-use Rattle.bounds.specs.Refusals.{refuse, is_accepted, refuse-no}
+use Rattle.bounds.specs.Refusals.{refuse, is_accepted, refuse-no, accepted}
 use Rattle.bounds.specs.declared.Refusal.TheVariants.{Fit, Range}
-use Rattle.bounds.specs.declared.Why.TheVariants.{Accepted}
 use Rattle.utf8.specs.Table.{well_formed, first_bad, bad_after}
 use Rattle.null_bits.specs.Bits as bits
 use Rattle.null_bits.specs.Runs.{put_bits}
@@ -168,12 +167,12 @@ module _ (w : ℕ) (s : Source) (k : Kind) (out : Lent) (g : Given w s k out) wh
   unfolding all_in_data in_data
   made_inside = le-leb ((block_at made 0).start + (block_at made 0).len) (data_room made) (inside_back 0 (omega arith))
 
-  pub made-valid : Accepted ≡ why_invalid made (offset_column w s k)
+  pub made-valid : accepted ≡ why_invalid made (offset_column w s k)
   unfolding why_invalid
   made-valid =
-      refuse-no Fit (not (fits made (offset_column w s k))) _ Accepted (rw fits-back)
-      (refuse-no Range (not (all_in_data made 1)) Accepted Accepted (rw made_inside) refl
-      ∙ lowest-none (true_at k made (offset_column w s k)) (rows_in w s) (refuse Range (not (all_in_data made 1)) Accepted) made-true)
+      refuse-no Fit (not (fits made (offset_column w s k))) _ accepted (rw fits-back)
+      (refuse-no Range (not (all_in_data made 1)) accepted accepted (rw made_inside) refl
+      ∙ lowest-none (true_at k made (offset_column w s k)) (rows_in w s) (refuse Range (not (all_in_data made 1)) accepted) made-true)
 
 -- ---- of an accepted call, whatever the width
 
@@ -182,7 +181,7 @@ module _ (w : ℕ) (s : Source) (k : Kind) (out : Lent) (a : is_accepted (why_of
   pub offsets-shows : Shows (from_offsets w s out) (offset_column w s k) (rows_of (value_in w s) (rows_in w s)) (rows_of (valid_row w s) (rows_in w s))
   offsets-shows = made-shows w s k out (given w s k out a)
 
-  pub offsets-valid : Accepted ≡ why_invalid (from_offsets w s out) (offset_column w s k)
+  pub offsets-valid : accepted ≡ why_invalid (from_offsets w s out) (offset_column w s k)
   offsets-valid = made-valid w s k out (given w s k out a)
 
   module _ (r : ℕ) (h : r < rows_in w s) where

@@ -1,6 +1,6 @@
 -- A row cut out of a text where sequences begin is a text: one look at all bytes judges every row. Assumes nothing.
 use mathlib.Core.Path.{◌≡◌, refl}
-use mathlib.Core.Bool.{Bool, true, false, true≢false}
+use mathlib.Core.Bool.{Bool, true, false}
 use mathlib.Core.List.{List}
 use Prim.Native.Nat.{ℕ, ◌+◌}
 use lib.ListN.{length}
@@ -12,11 +12,7 @@ use Rattle.column.specs.declared.Kind.{Kind}
 use Rattle.column.specs.declared.Kind.TheVariants.{Binary, Text}
 use Rattle.column.specs.Truth.{of_kind}
 use Rattle.offsets.specs.Offsets.{source, offset_at, cut_at, kind_at}
-use Rattle.offsets.specs.Steps.{is_text, CutIn}
-
-pub binary-all : (k : Kind) (x : List ℕ) → is_text k ≡ false → of_kind k x ≡ true
-binary-all Binary x e = refl
-binary-all Text x e = absurd (true≢false e)
+use Rattle.offsets.specs.Steps.{CutIn}
 
 pub text-row : (w : ℕ) (os bs : List ℕ) (k : Kind) (j : ℕ) → well_formed bs ≡ true → CutIn w os (length bs) j → Begins bs (offset_at w os j)
     → Begins bs (offset_at w os (j + 1)) → of_kind k (cut_at w os bs j) ≡ true

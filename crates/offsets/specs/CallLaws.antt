@@ -1,17 +1,15 @@
 -- The verdict as the code finds it, what an accepted call gives, and the whole call. Assumes nothing.
 use Rattle.std.proofs.Math.Path.{◌≡◌, refl}
-use Rattle.std.proofs.Common.{◌∙◌, arith, le-ltb}
-use Rattle.std.specs.Prelude.{Bool, true, false, not, ◌&&◌, List, [], ◌∷◌, ℕ, ◌+◌, ◌*◌, ◌^◌, ◌≤◌, ◌<◌, ltb, length, set}
+use Rattle.std.proofs.Common.{◌∙◌, ap, arith, le-ltb}
+use Rattle.std.specs.Prelude.{Bool, true, false, not, ◌&&◌, List, [], ◌∷◌, ℕ, ◌+◌, ◌*◌, ◌^◌, ◌≤◌, ◌<◌, ltb, length, set, Result, ⊤, Ok, Err}
 use Rattle.std.proofs.lemmas.Bool.{not-false}
 use Rattle.views.specs.View.{view_size}
 use Rattle.bounds.specs.Bounds.{row-limit-small, byte-limit-small}
-use Rattle.bounds.specs.Refusals.{is_accepted, refuse-yes, refuse-no, accepted-both, accepted-yes, accepted-no}
+use Rattle.bounds.specs.Refusals.{refuse, is_accepted, refuse-yes, refuse-no, accepted-both, answered, accepted, Why}
+use Rattle.bounds.specs.declared.Refusal.{Refusal}
 use Rattle.bounds.specs.declared.Refusal.TheVariants.{Fit, Offsets, NotUtf8}
-use Rattle.bounds.specs.declared.Why.{Why}
-use Rattle.bounds.specs.declared.Why.TheVariants.{Refused}
 use Rattle.null_bits.specs.Runs.{copy_column}
 use Rattle.column.specs.declared.Kind.{Kind}
-use Rattle.column.specs.declared.Column.{Column}
 use Rattle.column.specs.Lent.{Lent, lent, row_room, block_room, data_room}
 use Rattle.column.proofs.FitLaws.{length-table}
 use Rattle.showing.specs.Rooms.{rooms}
@@ -19,12 +17,14 @@ use Rattle.laying.specs.Written.{front, put_rows}
 use Rattle.laying.specs.WrittenLaws.{front-one}
 use Rattle.laying.specs.Rooms.{why_rooms}
 use Rattle.laying.specs.RoomLaws.{RoomGiven, rooms-give}
-use Rattle.offsets.specs.declared.Outcome.{Outcome}
-use Rattle.offsets.specs.Offsets.{Source, offset_count, rows_in, cuts, any_null, kind_at, why_kinds, row_view_of, why_offsets, from_offsets, offset_column, no_column, offsets_of, Converted}
-use Rattle.offsets.specs.Steps.{CutIn, SourceIn, GoodRows}
-use Rattle.offsets.specs.OffsetLaws.{map-there, cuts-give, cuts-count, bits-from, kinds-none, kinds-bad, kinds-good}
+use Rattle.offsets.specs.Offsets.{Source, offset_count, row_count, rows_in, cuts, any_null, kind_at, why_kinds, row_view_of, why_offsets, from_offsets, offset_column, no_column, offsets_of, Converted}
+use Rattle.offsets.specs.Steps.{all_kinds, CutIn, SourceIn}
+use Rattle.offsets.specs.OffsetLaws.{map-there, cuts-give, cuts-count, bits-from, kinds-are, kinds-good}
 
 -- ---- the verdict
+
+pub rows-are : (w : ℕ) (os : List ℕ) (rows : ℕ) → rows + 1 ≡ offset_count w os → rows ≡ row_count w os
+rows-are w os rows e = omega arith
 
 module _ (w : ℕ) (s : Source) (k : Kind) (out : Lent) where
   abbrev short : Bool
@@ -44,30 +44,32 @@ module _ (w : ℕ) (s : Source) (k : Kind) (out : Lent) where
   unfolding cuts
   none-cut e = rw (← e)
 
-  pub refused_none : 0 ≡ offset_count w s.offsets → Refused Offsets ≡ why_offsets w s k out
+  pub refused_none : 0 ≡ offset_count w s.offsets → Err Offsets ≡ why_offsets w s k out
   unfolding why_offsets
-  refused_none e = refuse-no Fit short _ (Refused Offsets) (none-short e) (refuse-yes Offsets (not cutting) _ (Refused Offsets) (none-cut e) refl)
+  refused_none e = refuse-no Fit short _ (Err Offsets) (none-short e) (refuse-yes Offsets (not cutting) _ (Err Offsets) (none-cut e) refl)
 
   module _ (rows : ℕ) (e : rows ≡ rows_in w s) where
-    pub refused-map : s.mapped && ltb (8 * length s.nulls) rows ≡ true → Refused Fit ≡ why_offsets w s k out
+    pub refused-map : s.mapped && ltb (8 * length s.nulls) rows ≡ true → Err Fit ≡ why_offsets w s k out
     unfolding why_offsets
-    refused-map h = refuse-yes Fit short _ (Refused Fit) (rw e at h) refl
+    refused-map h = refuse-yes Fit short _ (Err Fit) (rw e at h) refl
 
     module _ (fit : s.mapped && ltb (8 * length s.nulls) rows ≡ false) where
-      pub refused-cut : not cutting ≡ true → Refused Offsets ≡ why_offsets w s k out
+      pub refused-cut : not cutting ≡ true → Err Offsets ≡ why_offsets w s k out
       unfolding why_offsets
-      refused-cut h = refuse-no Fit short _ (Refused Offsets) (rw e at fit) (refuse-yes Offsets (not cutting) _ (Refused Offsets) h refl)
+      refused-cut h = refuse-no Fit short _ (Err Offsets) (rw e at fit) (refuse-yes Offsets (not cutting) _ (Err Offsets) h refl)
 
-      module _ (c : not cutting ≡ false) (g : ℕ) (j : GoodRows w s k rows g) where
-        past : (y : Why) → y ≡ why_kinds w s k (rows_in w s) (why_rooms true (rows_in w s) 1 (length s.bytes) out) → y ≡ why_offsets w s k out
+      module _ (c : not cutting ≡ false) where
+        past : (y z : Why) → y ≡ refuse NotUtf8 (not (all_kinds w s k rows)) z → z ≡ why_rooms true rows 1 (length s.bytes) out → y ≡ why_offsets w s k out
         unfolding why_offsets
-        past y h = refuse-no Fit short _ y (rw e at fit) (refuse-no Offsets (not cutting) _ y c h)
+        past y z h r =
+            let q : y ≡ why_kinds w s k rows (why_rooms true rows 1 (length s.bytes) out) = rw (← r) (h ∙ kinds-are w s k rows z) in
+            refuse-no Fit short _ y (rw e at fit) (refuse-no Offsets (not cutting) _ y c (rw e at q))
 
-        pub refused-kind : g < rows → Refused NotUtf8 ≡ why_offsets w s k out
-        refused-kind h = past (Refused NotUtf8) (rw (← e) (kinds-bad w s k g rows (why_rooms true rows 1 (length s.bytes) out) h j.truth (j.bad h)))
+        pub refused-kind : all_kinds w s k rows ≡ false → Err NotUtf8 ≡ why_offsets w s k out
+        refused-kind h = past (Err NotUtf8) _ (refuse-yes NotUtf8 (not (all_kinds w s k rows)) _ (Err NotUtf8) (ap not h) refl) refl
 
-        pub judged : rows ≤ g → (y : Why) → y ≡ why_rooms true rows 1 (length s.bytes) out → y ≡ why_offsets w s k out
-        judged h y r = past y (rw (← e) (r ∙ kinds-none w s k rows (why_rooms true rows 1 (length s.bytes) out) (λ i l. j.truth i (omega arith))))
+        pub judged : all_kinds w s k rows ≡ true → (y : Why) → y ≡ why_rooms true rows 1 (length s.bytes) out → y ≡ why_offsets w s k out
+        judged h y r = past y y (refuse-no NotUtf8 (not (all_kinds w s k rows)) y y (ap not h) refl) r
 
 -- ---- a lawful source
 
@@ -134,31 +136,27 @@ places w s k vs bs ss ns ms g =
 
 -- ---- the whole call
 
-outcome-is : (y y' : Why) (d d' : Column) → y ≡ y' → d ≡ d' → ◌≡◌ {A = Outcome} (record { why = y; column = d }) (record { why = y'; column = d' })
-outcome-is y y' d d' e f = cc
+-- what an answer says of its verdict
+pub answered_ok : {A E : Type 0} (w : Result ⊤ E) (x y : A) → Ok y ≡ answered w x → (Ok tt ≡ w) × (y ≡ x)
+answered_ok (Ok u) x y e = (refl, cc)
+answered_ok (Err r) x y e = absurd (cc)
 
-module _ (w : ℕ) (s : Source) (k : Kind) (vs bs ss ns ms : List ℕ) (y : Why) (g : y ≡ why_offsets w s k (lent vs bs ss ns ms)) where
+pub answered_err : {A E : Type 0} (w : Result ⊤ E) (x : A) (r : E) → Err r ≡ answered w x → Err r ≡ w
+answered_err (Ok u) x r e = absurd (cc)
+answered_err (Err q) x r e = ap Err cc
+
+module _ (w : ℕ) (s : Source) (k : Kind) (vs bs ss ns ms : List ℕ) where
   abbrev dest : Lent
   dest = lent vs bs ss ns ms
 
-  abbrev verdict : Why
-  verdict = why_offsets w s k dest
-
-  pub converted-not : is_accepted y ≡ false → Converted w s k vs bs ss ns ms (record { why = y; column = no_column w s k }) vs bs ss ns ms
+  pub converted-not : (r : Refusal) → Err r ≡ why_offsets w s k dest
+      → Converted w s k vs bs ss ns ms (record { why = Err r; column = no_column w s k }) vs bs ss ns ms
   unfolding offsets_of
-  converted-not h =
-      record {
-        answer = outcome-is y verdict (no_column w s k) _ g (accepted-no verdict y (offset_column w s k) (no_column w s k) (no_column w s k) g h refl);
-        views = accepted-no verdict y (from_offsets w s dest).views vs vs g h refl;
-        bytes = accepted-no verdict y (from_offsets w s dest).bytes bs bs g h refl;
-        starts = accepted-no verdict y (front ss (0 ∷ [])) ss ss g h refl;
-        lens = accepted-no verdict y (front ns (length s.bytes ∷ [])) ns ns g h refl;
-        nulls = accepted-no verdict y (from_offsets w s dest).nulls ms ms g h refl;
-      }
+  converted-not r e = record { answer = rw (← e); views = rw (← e); bytes = rw (← e); starts = rw (← e); lens = rw (← e); nulls = rw (← e) }
 
-  module _ (h : is_accepted y ≡ true) where
+  module _ (g : accepted ≡ why_offsets w s k dest) where
     pub allowed : Given w s k dest
-    allowed = given w s k dest (rw g at h)
+    allowed = given w s k dest (rw (← g))
 
     pub roomed : Places (rows_in w s) (length s.bytes) vs bs ss ns ms
     roomed = places w s k vs bs ss ns ms allowed
@@ -173,17 +171,15 @@ module _ (w : ℕ) (s : Source) (k : Kind) (vs bs ss ns ms : List ℕ) (y : Why)
 
       pub converted : (b : Bool) (vs' bs' ms' : List ℕ) → b ≡ any_null s.nulls s.mapped rows → vs' ≡ put_rows vs (row_view_of w s) rows
           → bs' ≡ front bs s.bytes → ms' ≡ copy_column ms 0 s.nulls s.mapped 0 rows
-          → Converted w s k vs bs ss ns ms (record { why = y; column = record { first = 0; rows = rows; blocks = 1; kind = k; mapped = b } })
+          → Converted w s k vs bs ss ns ms (record { why = accepted; column = record { first = 0; rows = rows; blocks = 1; kind = k; mapped = b } })
           vs' bs' (set ss 0 0) (set ns 0 (length s.bytes)) ms'
       unfolding offsets_of from_offsets
       converted b vs' bs' ms' p q d r =
-          let c : ◌≡◌ {A = Column} (record { first = 0; rows = rows; blocks = 1; kind = k; mapped = b }) (offset_column w s k) = rw (p, e) in
           record {
-            answer = outcome-is y verdict _ _ g (accepted-yes verdict y (offset_column w s k) (no_column w s k) _ g h c);
-            views = accepted-yes verdict y (put_rows vs (row_view_of w s) (rows_in w s)) vs vs' g h (rw e at q);
-            bytes = accepted-yes verdict y (front bs s.bytes) bs bs' g h d;
-            starts = accepted-yes verdict y (front ss (0 ∷ [])) ss (set ss 0 0) g h (front-one ss 0 roomed.starts);
-            lens = accepted-yes verdict y (front ns (length s.bytes ∷ [])) ns (set ns 0 (length s.bytes)) g h (front-one ns (length s.bytes)
-                roomed.lens);
-            nulls = accepted-yes verdict y (from_offsets w s dest).nulls ms ms' g h (rw e at (r ∙ bits-from ms s.nulls s.mapped rows));
+            answer = rw (← g, p, e);
+            views = rw (← g) (rw e at q);
+            bytes = rw (← g) d;
+            starts = rw (← g) (front-one ss 0 roomed.starts);
+            lens = rw (← g) (front-one ns (length s.bytes) roomed.lens);
+            nulls = rw (← g) (rw e at (r ∙ bits-from ms s.nulls s.mapped rows));
           }

@@ -11,16 +11,14 @@ use native.Mathlib.Omega.{arith}
 use borrow.Author.Tests.{leb-true, le-leb, lt-leb, ltb-true, ltb-false, lt-ltb, le-ltb, ne_eqb, not-false}
 use Rattle.std.proofs.Math.Dec.{leb, ltb}
 use Rattle.words.specs.Words.{word_at}
-use Rattle.bounds.specs.Refusals.{refuse, is_accepted, accepted-both}
+use Rattle.bounds.specs.Refusals.{refuse, is_accepted, accepted-both, Why}
 use Rattle.bounds.specs.declared.Refusal.TheVariants.{NotUtf8}
-use Rattle.bounds.specs.declared.Why.{Why}
-use Rattle.bounds.specs.declared.Why.TheVariants.{Refused}
 use Rattle.null_bits.specs.Bits.{valid_at, null_of, count_nulls}
 use Rattle.null_bits.specs.Runs.{put_bits, copy_column}
 use Rattle.null_bits.proofs.RunLaws.{bits-same}
 use Rattle.column.specs.declared.Kind.{Kind}
 use Rattle.offsets.specs.Offsets.{Source, width_of, half, offset_at, offset_count, lawful_at, lawful, cuts, any_null, kind_at, why_kinds}
-use Rattle.offsets.specs.Steps.{rising, CutIn}
+use Rattle.offsets.specs.Steps.{rising, all_kinds, CutIn}
 
 -- ---- the two widths
 
@@ -231,21 +229,41 @@ null-none nulls mapped (suc n) h r l = by (any_null nulls mapped n) refl (valid_
 pub bits-from : (ms nulls : List ℕ) (mapped : Bool) (n : ℕ) → copy_column ms 0 nulls mapped 0 n ≡ put_bits ms 0 (λ r. valid_at nulls mapped r) n
 bits-from ms nulls mapped n = bits-same ms 0 (λ k. valid_at nulls mapped (0 + k)) (λ r. valid_at nulls mapped r) n (λ k l. ap (valid_at nulls mapped) (zero-add k))
 
--- ---- the first row that isn't of the kind
+-- ---- a row that isn't of the kind
 
 module _ (w : ℕ) (s : Source) (k : Kind) where
-  pub kinds-none : (n : ℕ) (y : Why) → ((j : ℕ) → j < n → kind_at w s k j ≡ true) → y ≡ why_kinds w s k n y
-  unfolding why_kinds refuse
-  kinds-none zero y h = refl
-  kinds-none (suc n) y h = rw (h n (omega arith)) (kinds-none n y (λ j l. h j (omega arith)))
+  pub kinds-begin : all_kinds w s k 0 ≡ true
+  unfolding all_kinds
+  kinds-begin = refl
 
-  pub kinds-bad : (i n : ℕ) (y : Why) → i < n → ((j : ℕ) → j < i → kind_at w s k j ≡ true) → kind_at w s k i ≡ false → Refused NotUtf8 ≡ why_kinds w s k n y
-  unfolding why_kinds refuse
-  kinds-bad i zero y l h b = absurd (not-suc-le-zero l)
-  kinds-bad i (suc n) y l h b =
-      by_cases (ℕ_discrete i n)
-      (λ e. subst (λ (m : ℕ). Refused NotUtf8 ≡ why_kinds w s k m (refuse NotUtf8 (not (kind_at w s k m)) y)) e (rw b (kinds-none i (Refused NotUtf8) h)))
-      (λ d. kinds-bad i n (refuse NotUtf8 (not (kind_at w s k n)) y) (omega arith) h b)
+  pub kinds-more : (n : ℕ) → all_kinds w s k n ≡ true → kind_at w s k n ≡ true → all_kinds w s k (n + 1) ≡ true
+  unfolding all_kinds
+  kinds-more n e f = let g : all_kinds w s k (suc n) ≡ true = rw (e, f) in rw (add-one n) g
+
+  pub kinds-all : (n : ℕ) → ((j : ℕ) → j < n → kind_at w s k j ≡ true) → all_kinds w s k n ≡ true
+  unfolding all_kinds
+  kinds-all zero h = refl
+  kinds-all (suc n) h = rw (kinds-all n (λ j l. h j (omega arith)), h n (omega arith))
+
+  pub kinds-stop : (i n : ℕ) → i < n → kind_at w s k i ≡ false → false ≡ all_kinds w s k n
+  unfolding all_kinds
+  kinds-stop i zero l b = absurd (not-suc-le-zero l)
+  kinds-stop i (suc n) l b = by_cases (ℕ_discrete i n) (λ e. rw (← e, b) (none (all_kinds w s k i))) (λ d. rw (← (kinds-stop i n (omega arith) b)))
+    where
+      none : (a : Bool) → false ≡ a && false
+      none true = refl
+      none false = refl
+
+  -- the verdict on all rows is one test
+  pub kinds-are : (n : ℕ) (y : Why) → refuse NotUtf8 (not (all_kinds w s k n)) y ≡ why_kinds w s k n y
+  unfolding why_kinds all_kinds refuse
+  kinds-are zero y = refl
+  kinds-are (suc n) y = by (all_kinds w s k n) (kind_at w s k n) (kinds-are n (refuse NotUtf8 (not (kind_at w s k n)) y))
+    where
+      by : (a b : Bool) → refuse NotUtf8 (not a) (refuse NotUtf8 (not b) y) ≡ why_kinds w s k n (refuse NotUtf8 (not b) y)
+          → refuse NotUtf8 (not (a && b)) y ≡ why_kinds w s k n (refuse NotUtf8 (not b) y)
+      by true b e = e
+      by false b e = e
 
   pub kinds-good : (n : ℕ) (y : Why) → is_accepted (why_kinds w s k n y) ≡ true → ((j : ℕ) → j < n → kind_at w s k j ≡ true) × (is_accepted y ≡ true)
   unfolding why_kinds

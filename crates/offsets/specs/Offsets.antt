@@ -2,9 +2,8 @@
 use Rattle.std.specs.Prelude.{◌≡◌, Bool, true, false, not, ◌&&◌, ◌||◌, List, [], ◌∷◌, ℕ, zero, suc, ◌+◌, ◌-◌, ◌*◌, ◌/◌, ◌^◌, leb, ltb, length, take, drop}
 use Rattle.basis.specs.Pick.{pick}
 use Rattle.words.specs.Words.{word_at}
-use Rattle.bounds.specs.Refusals.{refuse, if_accepted}
+use Rattle.bounds.specs.Refusals.{refuse, if_accepted, Why}
 use Rattle.bounds.specs.declared.Refusal.TheVariants.{Fit, Offsets, NotUtf8}
-use Rattle.bounds.specs.declared.Why.{Why}
 use Rattle.views.specs.View.{make_view, zero_view}
 use Rattle.null_bits.specs.Bits.{valid_at}
 use Rattle.null_bits.specs.Runs.{put_bits}

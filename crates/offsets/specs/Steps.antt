@@ -1,12 +1,15 @@
 -- What the code does at an offset and at a row, and what it asks. Assumes nothing.
 use Rattle.std.specs.Prelude.{◌≡◌, Bool, true, false, ◌&&◌, List, ℕ, zero, suc, ◌+◌, ◌*◌, ◌^◌, ◌≤◌, ◌<◌, leb, length}
 use Rattle.column.specs.declared.Kind.{Kind}
-use Rattle.column.specs.declared.Kind.TheVariants.{Binary, Text}
-use Rattle.offsets.specs.Offsets.{Source, offset_at, offset_count, kind_at}
+use Rattle.offsets.specs.declared.Input.{Input}
+use Rattle.offsets.specs.Offsets.{Source, source, width_of, offset_at, offset_count, kind_at}
 
-abbrev pub is_text : Kind → Bool
-is_text Binary = false
-is_text Text = true
+-- the source and the bytes of an offset, as the code has them
+abbrev pub source_of : Input → Source
+source_of i = source i.offsets.now i.bytes.now i.nulls.now i.mapped
+
+abbrev pub width : Input → ℕ
+width i = width_of i.large
 
 -- none of the offsets 1 to n is below the one before it
 unfoldable pub rising : ℕ → List ℕ → ℕ → Bool
@@ -26,8 +29,7 @@ pub record SourceIn (w : ℕ) (s : Source) (rows : ℕ) : Type 0 where
   pub cut : (j : ℕ) → j < rows → CutIn w s.offsets (length s.bytes) j
   pub map : s.mapped ≡ true → rows ≤ 8 * length s.nulls
 
--- the rows that are of the kind, before the first that isn't
-pub record GoodRows (w : ℕ) (s : Source) (k : Kind) (rows good : ℕ) : Type 0 where
-  pub within : good ≤ rows
-  pub truth : (r : ℕ) → r < good → kind_at w s k r ≡ true
-  pub bad : good < rows → kind_at w s k good ≡ false
+-- the first n rows are of the kind
+unfoldable pub all_kinds : ℕ → Source → Kind → ℕ → Bool
+all_kinds w s k zero = true
+all_kinds w s k (suc n) = all_kinds w s k n && kind_at w s k n

@@ -2,7 +2,7 @@
 use mathlib.Core.Path.{◌≡◌, refl, sym, ◌∙◌}
 use mathlib.Core.List.{List, [], ◌∷◌}
 use Prim.Native.Nat.compare
-use Prim.Native.Nat.{ℕ, zero, suc, ◌+◌, ◌-◌, ◌*◌, ◌/◌, ◌%◌, ◌^◌, ◌≤◌, ◌<◌, min, compare, Ordering}
+use Prim.Native.Nat.{ℕ, zero, suc, ◌+◌, ◌-◌, ◌*◌, ◌/◌, ◌%◌, ◌^◌, ◌≤◌, min, compare, Ordering}
 use native.Mathlib.Nat.{zero-add}
 use native.Mathlib.Omega.{arith}
 use borrow.Author.Count.{below_more}
@@ -25,18 +25,12 @@ cmp-from a b (suc i) ha hb e =
     ∙ cmp-byte a b i ha hb
     ∙ rw (compare-eq (get_or a i 0) (get_or b i 0) (rw zero-add at (e i (omega arith))))
 
--- the first word, or byte, that differs decides
+-- the first word that differs decides
 pub word-decides : (a b : List ℕ) (i n x y : ℕ) → Bytes a → Bytes b → i + n ≤ length a → i + n ≤ length b → Agree a b 0 i
     → x ≡ be_at a i n → y ≡ be_at b i n → (x ≡ y → ⊥) → compare x y ≡ cmp a b
 word-decides a b i n x y ba bb ha hb e ex ey ne =
     sym (cmp-from a b i (omega arith) (omega arith) e ∙ rw (← ex, ← ey) at (cmp-word a b i n ba bb ha hb)
     ∙ firm x y (cmp (drop (i + n) a) (drop (i + n) b)) ne)
-
-pub byte-decides : (a b : List ℕ) (i x y : ℕ) → i < length a → i < length b → Agree a b 0 i
-    → x ≡ get_or a i 0 → y ≡ get_or b i 0 → (x ≡ y → ⊥) → compare x y ≡ cmp a b
-byte-decides a b i x y ha hb e ex ey ne =
-    sym (cmp-from a b i (omega arith) (omega arith) e ∙ rw (← ex, ← ey) at (cmp-byte a b i ha hb)
-    ∙ firm x y (cmp (drop (suc i) a) (drop (suc i) b)) ne)
 
 -- where no byte differs, the lengths decide
 pub lengths-decide : (a b : List ℕ) → Agree a b 0 (min (length a) (length b)) → compare (length a) (length b) ≡ cmp a b
@@ -108,15 +102,12 @@ block_same a b i k d h e =
 pub agree-next : (a b : List ℕ) (i n : ℕ) → Agree a b 0 i → Agree a b i n → Agree a b 0 (i + n)
 agree-next a b i n e f = agree-more a b 0 i n e (rw (zero-add i) f)
 
--- .. which are one word, or one byte
+-- .. which are one word
 pub word_same : (a b : List ℕ) (i n x y : ℕ) → Bytes a → Bytes b → Agree a b 0 i → x ≡ be_at a i n → y ≡ be_at b i n → x ≡ y → Agree a b 0 (i + n)
 word_same a b i n x y ba bb e ex ey exy = agree-next a b i n e (word-agree a b i n ba bb (sym ex ∙ exy ∙ ey))
 
 pub le_same : (a b : List ℕ) (i n x y : ℕ) → Bytes a → Bytes b → Agree a b 0 i → x ≡ word_at a i n → y ≡ word_at b i n → x ≡ y → Agree a b 0 (i + n)
 le_same a b i n x y ba bb e ex ey exy = agree-next a b i n e (le-agree a b i n ba bb (sym ex ∙ exy ∙ ey))
-
-pub byte-same : (a b : List ℕ) (i x y : ℕ) → Agree a b 0 i → x ≡ get_or a i 0 → y ≡ get_or b i 0 → x ≡ y → Agree a b 0 (i + 1)
-byte-same a b i x y e ex ey exy = below_more (λ (k : ℕ). get_or a (0 + k) 0 ≡ get_or b (0 + k) 0) i e (rw (zero-add i) (sym ex ∙ exy ∙ ey))
 
 -- lists of one length whose bytes are equal
 pub same-all : (a b : List ℕ) (n : ℕ) → n ≡ length a → n ≡ length b → Agree a b 0 n → a ≡ b

@@ -1,12 +1,14 @@
 -- Laws of the byte order and of sameness, for those who compare. Assumes nothing.
-use Rattle.std.specs.Prelude.{◌≡◌, refl, Bool, true, false, List, [], ◌∷◌, eqb}
+use Rattle.std.specs.Prelude.{◌≡◌, ◌≢◌, refl, Bool, true, false, MatchBool, List, [], ◌∷◌, eqb}
 use Rattle.std.proofs.Common.{sym, ap, ◌∙◌, arith, eq-eqb, eqb-true}
 use Prim.Native.Nat.compare
 use Prim.Native.Nat.{ℕ, zero, suc, ◌<◌, compare, Ordering}
+use Rattle.std.specs.Ordering.{MatchOrdering, nat_cmp, ordering_then}
+use Rattle.std.specs.Cmp.Lexicographic.{slice_cmp}
+use Rattle.std.proofs.lemmas.Cmp.{ranked}
 use Rattle.basis.specs.Pick.{pick}
-use Rattle.order.specs.declared.Order.{Order}
-use Rattle.order.specs.declared.Order.TheVariants.{Less, Equal, Greater}
-use Rattle.order.specs.Order.{thenby, cmp, same, ordering}
+use Rattle.order.specs.Order.{Order, thenby, cmp, same, ordering}
+use Rattle.std.proofs.Common.{Less, Equal, Greater}
 
 -- ---- numbers
 
@@ -26,6 +28,12 @@ compare_same (suc x) = compare.suc-suc x x ∙ compare_same x
 
 pub compare-eq : (x y : ℕ) → x ≡ y → compare x y ≡ Ordering.eq
 compare-eq x y e = rw e (compare_same y)
+
+-- what std's answer says of two numbers
+pub compare-ranked : (x y : ℕ) (o : Order) → MatchOrdering o (x < y) (x ≡ y) (y < x) → ordering o ≡ compare x y
+compare-ranked x y Less h = sym (compare-lt x y h)
+compare-ranked x y Equal h = sym (compare-eq x y h)
+compare-ranked x y Greater h = sym (compare-gt x y h)
 
 -- below, equal or above
 pub data Tri (x y : ℕ) : Type 0 where
@@ -82,6 +90,21 @@ cmp-flip (a ∷ x) (b ∷ y) = by (tri a b) (cmp-flip x y)
     by (above h) more = rw (compare-gt a b h, compare-lt b a h)
     by (level h) more = rw (compare-eq a b h, compare-eq b a (sym h)) more
 
+-- std's order of two lists, and one answer after the other
+after : (o p : Order) → ordering (ordering_then o p) ≡ thenby (ordering o) (ordering p)
+after Less p = refl
+after Equal p = refl
+after Greater p = refl
+
+pub ordering-slice_cmp : (x y : List ℕ) → ordering (slice_cmp nat_cmp x y) ≡ cmp x y
+unfolding cmp
+ordering-slice_cmp [] [] = refl
+ordering-slice_cmp [] (b ∷ y) = refl
+ordering-slice_cmp (a ∷ x) [] = refl
+ordering-slice_cmp (a ∷ x) (b ∷ y) =
+    let one : ordering (nat_cmp a b) ≡ compare a b = compare-ranked a b (nat_cmp a b) (ranked a b (nat_cmp a b) refl) in
+    rw (after (nat_cmp a b) (slice_cmp nat_cmp x y), one, ordering-slice_cmp x y)
+
 -- ---- sameness
 
 pub same_self : (x : List ℕ) → same x x ≡ true
@@ -116,6 +139,11 @@ same-is x y true f g = sym (same-yes x y (f refl))
 same-is x y false f g = sym (same-no x y (λ e. let z : false ≡ true = g e in let n : ◌≡◌ {A = ℕ} 0 1 = cc in omega arith))
 
 -- ---- answers
+
+-- .. as what std's test of two lists says
+pub same-told : (x y : List ℕ) (t : Bool) → MatchBool t (x ≡ y) (x ≢ y) → t ≡ same x y
+same-told x y true h = sym (same-yes x y h)
+same-told x y false h = sym (same-no x y h)
 
 -- one meaning, one answer
 pub ordering-one : (a b : Order) → ordering a ≡ ordering b → a ≡ b

@@ -3,8 +3,8 @@ use Rattle.std.specs.Prelude.{◌≡◌, Bool, true, false, List, [], ◌∷◌,
 use Prim.Native.Nat.{ℕ, ◌+◌, ◌<◌, compare, Ordering}
 use Rattle.basis.specs.Pick.{pick}
 use Rattle.words.specs.Words.{word_at}
-use Rattle.order.specs.declared.Order.{Order}
-use Rattle.order.specs.declared.Order.TheVariants.{Less, Equal, Greater}
+use Rattle.std.proofs.Common as std
+use Rattle.std.proofs.Common.{Less, Equal, Greater}
 
 -- the first answer unless it is equality
 abbrev pub thenby : Ordering → Ordering → Ordering
@@ -29,6 +29,10 @@ same (a ∷ x) (b ∷ y) = pick (eqb a b) (same x y) false
 -- two short views: their twelve bytes, then their lengths
 unfoldable pub short_order : List ℕ → List ℕ → Ordering
 short_order v w = thenby (cmp (drop 4 v) (drop 4 w)) (compare (word_at v 0 4) (word_at w 0 4))
+
+-- the answer of a comparison in the code
+abbrev pub Order : Type 0
+Order = std.Ordering
 
 -- what each answer means
 abbrev pub ordering : Order → Ordering

@@ -1,10 +1,9 @@
 -- An exported call's promise from the promise of the call that it makes. Assumes nothing.
+use Rattle.std.specs.Prelude.{Ok, Err}
 use mathlib.Core.Path.{◌≡◌, refl, ap, subst, ◌∙◌}
 use mathlib.Core.List.{List}
 use Prim.Native.Nat.{ℕ}
-use Rattle.bounds.specs.Refusals.{why_number, if_accepted}
-use Rattle.bounds.specs.declared.Why.{Why}
-use Rattle.bounds.specs.declared.Why.TheVariants.{Accepted, Refused}
+use Rattle.bounds.specs.Refusals.{why_number, if_accepted, accepted, Why}
 use Rattle.column.specs.declared.Kind.{Kind}
 use Rattle.column.specs.declared.Column.{Column}
 use Rattle.column.specs.Lent.{Lent, lent}
@@ -18,8 +17,8 @@ use Rattle.output_exports.specs.Given.{ExportsCompact, Converts}
 
 -- a column that is answered only where the call is accepted
 numbers-when : (w : Why) (c d : Column) (l : List ℕ) → if_accepted w (column_numbers (if_accepted w c d)) l ≡ if_accepted w (column_numbers c) l
-numbers-when Accepted c d l = refl
-numbers-when (Refused r) c d l = refl
+numbers-when (Ok _) c d l = refl
+numbers-when (Err r) c d l = refl
 
 pub compacts : (most : ℕ) (l : Lent) (c d : Column) (vs bs ss ns ms cs : List ℕ) (o : compaction.Outcome) (r : Told) (vs' bs' ss' ns' ms' cs' : List ℕ)
     → d ≡ c → Wrote most l d vs bs ss ns ms o vs' bs' ss' ns' ms' → cs' ≡ if_accepted o.why (column_numbers o.column) cs → r ≡ why_told o.why

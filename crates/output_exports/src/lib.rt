@@ -7,6 +7,7 @@ ghost use Rattle.offsets.specs.Offsets.{source};
 ghost use Rattle.numbers.specs.Numbers.{column_from, kind_from};
 ghost use Rattle.output_exports.specs.Given.{ExportsCompact, Converts};
 
+use column::Buffers;
 use numbers::Told;
 
 // Compaction: 0, or 1, 2, 11 with its row, 5, 6 or 7. Refused, the new column's buffers and numbers stay as they came. Source and output are apart.
@@ -32,11 +33,13 @@ pub extern "C" fn tambuyeel_compact<'a>(
         newnulls.new newcolumn.new }
 {
     let done = compaction::compact(
-        views,
-        bytes,
-        starts,
-        lens,
-        nulls,
+        Buffers {
+            views,
+            bytes,
+            starts,
+            lens,
+            nulls,
+        },
         numbers::column_of(column),
         most,
         newviews,
@@ -45,10 +48,8 @@ pub extern "C" fn tambuyeel_compact<'a>(
         newlens,
         newnulls,
     );
-    let why = done.why;
-    let c = done.column;
-    numbers::hand(why, c, newcolumn);
-    numbers::told_why(why)
+    numbers::hand(done.why, done.column, newcolumn);
+    numbers::told_why(done.why)
 }
 
 // A column from 32-bit offsets, little-endian: 0, or 2, 13, 10, 5, 6 or 7. `mapped` 0: there is no input map; `kind` 0 Binary, else String.
@@ -83,8 +84,6 @@ pub extern "C" fn tambuyeel_from_offsets<'a>(
         newlens,
         newnulls,
     );
-    let why = done.why;
-    let c = done.column;
-    numbers::hand(why, c, newcolumn);
-    bounds::why_number(why) as u64
+    numbers::hand(done.why, done.column, newcolumn);
+    u64::from(bounds::why_number(done.why))
 }

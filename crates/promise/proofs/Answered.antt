@@ -2,9 +2,7 @@
 use mathlib.Core.Path.{◌≡◌, refl, sym, ap, ◌∙◌, subst}
 use mathlib.Core.List.{List, map}
 use Prim.Native.Nat.{ℕ}
-use Rattle.bounds.specs.Refusals.{is_accepted, if_accepted}
-use Rattle.bounds.specs.declared.Why.{Why}
-use Rattle.bounds.specs.declared.Why.TheVariants.{Accepted}
+use Rattle.bounds.specs.Refusals.{is_accepted, if_accepted, accepted, Why}
 use Rattle.column.specs.declared.Kind.{Kind}
 use Rattle.column.specs.declared.Column.{Column}
 use Rattle.column.specs.Lent.{Lent, lent}
@@ -36,7 +34,7 @@ use Rattle.promise.proofs.Promised.{promised, filed}
 -- ---- start and finish
 
 module _ (t : Settings) (ps : List ℕ) (r : Answer) (ps' : List ℕ) (h : Slices) (m : StartMet t ps r ps' h) where
-  start-why : why_start t ≡ Accepted
+  start-why : why_start t ≡ accepted
   start-why = sym (ap (λ (a : Answer). a.why) m.answers) ∙ m.accepted
 
   pub start-held : held_in h ≡ start t (lent_as (column_in h)) ps
@@ -48,7 +46,7 @@ module _ (t : Settings) (ps : List ℕ) (r : Answer) (ps' : List ℕ) (h : Slice
       λ i. builder (state i) (lent_as (column_in h)) (places i)
 
 module _ (h : Slices) (r : Finished) (h' : Slices) (m : FinishMet h r h') where
-  finish-why : why_finish (held_in h) ≡ Accepted
+  finish-why : why_finish (held_in h) ≡ accepted
   finish-why = met-why finish h r.answer h' m.met
 
   finish-lent : (finished (held_in h)).lent ≡ lent_as (column_in h')
@@ -61,7 +59,7 @@ module _ (h : Slices) (r : Finished) (h' : Slices) (m : FinishMet h r h') where
 -- ---- compaction and the offset column
 
 module _ (most : ℕ) (b : Buffers) (c : Column) (o : Buffers) (r : compaction.Outcome) (o' : Buffers) (m : CompactMet most b c o r o') where
-  pub compact-why : why_compact most (lent_as b) c (lent_as o) ≡ Accepted
+  pub compact-why : why_compact most (lent_as b) c (lent_as o) ≡ accepted
   unfolding compact_of
   compact-why = sym (ap (λ (a : compaction.Outcome). a.why) m.wrote.answer) ∙ m.accepted
 
@@ -76,7 +74,7 @@ module _ (most : ℕ) (b : Buffers) (c : Column) (o : Buffers) (r : compaction.O
       ∙ ap (λ (y : Why). if_accepted y (compact_column most (lent_as b) c) c) compact-why)
 
 module _ (s : Source) (k : Kind) (o : Buffers) (r : offsets.Outcome) (o' : Buffers) (m : ConvertMet s k o r o') where
-  convert-why : why_offsets 4 s k (lent_as o) ≡ Accepted
+  convert-why : why_offsets 4 s k (lent_as o) ≡ accepted
   unfolding offsets_of
   convert-why = sym (ap (λ (a : offsets.Outcome). a.why) m.converted.answer) ∙ m.accepted
 

@@ -1,4 +1,5 @@
 -- What the reading calls and the comparison answer of columns that show values and bits. Assumes nothing.
+use Rattle.std.specs.Prelude.{Ok}
 use mathlib.Core.Path.{◌≡◌}
 use mathlib.Core.Bool.{Bool, true}
 use mathlib.Core.List.{List, []}
@@ -6,8 +7,7 @@ use Prim.Native.Nat.{ℕ, ◌+◌, ◌<◌}
 use native.Mathlib.Omega.{arith}
 use borrow.Author.Tests.{lt-leb, le-ltb}
 use lib.ListN.{get_or}
-use Rattle.bounds.specs.Refusals.{refuse}
-use Rattle.bounds.specs.declared.Why.TheVariants.{Accepted}
+use Rattle.bounds.specs.Refusals.{refuse, accepted, answered}
 use Rattle.column.specs.declared.Column.{Column}
 use Rattle.column.specs.Lent.{Lent}
 use Rattle.showing.specs.Row.{Row}
@@ -15,12 +15,11 @@ use Rattle.showing.specs.Padded.{rows-compare}
 use Rattle.showing.specs.Shows.{Shows}
 use Rattle.showing.proofs.ShowsLaws.{shows-row, shows-value, shows-reach, shows-bit}
 use Rattle.order.specs.Order.{cmp}
-use Rattle.reading.specs.Reading.{why_run, why_row, why_value, value_at, bit_of, bit_when}
+use Rattle.reading.specs.Reading.{why_run, why_row, why_value, value_at, bit_of}
 use Rattle.comparison.specs.Compare.{both_of, why_compare, compare_views, compare_rows, order_of}
-use Rattle.comparison.specs.declared.Compared.TheVariants as compared
 
 module _ {l : Lent} {c : Column} {xs : List (List ℕ)} {bs : List Bool} (s : Shows l c xs bs) where
-  pub why-shows : (i : ℕ) → i < c.rows → why_value l c i ≡ Accepted
+  pub why-shows : (i : ℕ) → i < c.rows → why_value l c i ≡ accepted
   unfolding why_value refuse
   why-shows i h = rw (s.fitted, lt-leb c.rows i h, shows-reach s i h)
 
@@ -28,7 +27,7 @@ module _ {l : Lent} {c : Column} {xs : List (List ℕ)} {bs : List Bool} (s : Sh
   unfolding value_at
   value-shows i h = rw (why-shows i h) (shows-value s i h)
 
-  pub bit-shows : (i : ℕ) → i < c.rows → bit_of l c i ≡ bit_when Accepted (get_or bs i true)
+  pub bit-shows : (i : ℕ) → i < c.rows → bit_of l c i ≡ answered accepted (get_or bs i true)
   unfolding bit_of why_row why_run refuse
   bit-shows i h = rw (s.fitted, le-ltb c.rows (i + 1) (omega arith), shows-bit s i h)
 
@@ -39,6 +38,6 @@ compare-rows s t = rows-compare s t
 
 module _ {l : Lent} {c : Column} {xs : List (List ℕ)} {bs : List Bool} {m : Lent} {d : Column} {ys : List (List ℕ)} {cs : List Bool}
     (s : Shows l c xs bs) (t : Shows m d ys cs) where
-  pub compare-shows : (i j : ℕ) → i < c.rows → j < d.rows → compare_rows l c i m d j ≡ compared.Is (order_of (cmp (get_or xs i []) (get_or ys j [])))
+  pub compare-shows : (i j : ℕ) → i < c.rows → j < d.rows → compare_rows l c i m d j ≡ Ok (order_of (cmp (get_or xs i []) (get_or ys j [])))
   unfolding compare_rows why_compare both_of
   compare-shows i j p q = rw (why-shows s i p, why-shows t j q, compare-rows (shows-row s i p) (shows-row t j q))

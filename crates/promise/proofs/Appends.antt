@@ -1,4 +1,5 @@
 -- Each accepted value or null call adds rows that show what it appends, over a merge table of any content. Assumes nothing.
+use Rattle.bounds.specs.Refusals.{accepted}
 use mathlib.Core.Path.{◌≡◌, refl, sym, ap, ◌∙◌, subst}
 use mathlib.Core.Bool.{Bool, true, false, not, ◌&&◌}
 use mathlib.Core.List.{List, [], ◌∷◌, ◌++◌, map, map-append, append-nil, append_assoc}
@@ -10,7 +11,6 @@ use lib.ListN.{length, get_or, replicate, length-map, length-append}
 use lib.Seq.{get_or_at}
 use Rattle.basis.specs.Pick.{pick}
 use Rattle.hash.specs.Hash.{hash_of}
-use Rattle.bounds.specs.declared.Why.TheVariants.{Accepted}
 use Rattle.utf8.specs.Table.{bad_after, first_bad, well_formed}
 use Rattle.views.specs.View.{short_most, is_short, short_view, zero_view, view_at}
 use Rattle.views.specs.ViewLaws.{zero-view}
@@ -64,7 +64,7 @@ closing n b h k =
 
 -- there is room for n bytes more
 abbrev pub Takes : Builder → ℕ → Type 0
-Takes b n = why_lay b.state (block_room b.lent) (data_room b.lent) n ≡ Accepted
+Takes b n = why_lay b.state (block_room b.lent) (data_room b.lent) n ≡ accepted
 
 pub roomy : (n : ℕ) (b : Builder) → Fits b → Takes b n → Roomy b (make_room n b) n
 unfolding why_lay
@@ -127,19 +127,19 @@ module _ {m : ℕ} (b : Builder) (xs : List Cell) (x : List ℕ) (i : Inv m b xs
   inv-laid f long w = inv-long (enter f b) xs x (inv-enter f b xs i) o long (rw (rooms-enter f b) h) w
 
   inv-found : (f : Found) → found b x ≡ f → short_most < length x
-      → pick (is_row f) Accepted (why_lay b.state (block_room b.lent) (data_room b.lent) (length x)) ≡ Accepted
+      → pick (is_row f) accepted (why_lay b.state (block_room b.lent) (data_room b.lent) (length x)) ≡ accepted
       → Inv m (put_found f x b) (xs ++ cell x true ∷ [])
   unfolding put_found
   inv-found (Row r) e long w = inv-row b xs (view_at b.lent.views r) (cell x true) i (hit-row b xs i x r (found-hits b x r e)).1 o h
   inv-found (Free p) e long w = inv-laid (Free p) long w
   inv-found Full e long w = inv-laid Full long w
 
-  pub inv-value : why_store b x ≡ Accepted → Inv m (put_value x b) (xs ++ cell x true ∷ [])
+  pub inv-value : why_store b x ≡ accepted → Inv m (put_value x b) (xs ++ cell x true ∷ [])
   unfolding why_store put_value
   inv-value w = by (is_short (length x)) refl w
     where
       by : (t : Bool) → is_short (length x) ≡ t
-          → pick t Accepted (pick (is_row (found b x)) Accepted (why_lay b.state (block_room b.lent) (data_room b.lent) (length x))) ≡ Accepted
+          → pick t accepted (pick (is_row (found b x)) accepted (why_lay b.state (block_room b.lent) (data_room b.lent) (length x))) ≡ accepted
           → Inv m (pick t (add_row (short_view x) true b) (put_found (found b x) x b)) (xs ++ cell x true ∷ [])
       by true e w = inv-row b xs (short_view x) (cell x true) i (short_row (blocks_now b) x (leb-true _ _ e)) o h
       by false e w = inv-found (found b x) refl (leb-false _ _ e) w
@@ -189,9 +189,9 @@ last_row b xs x n e i =
 pub record Valued (n : ℕ) (b : Builder) (x : List ℕ) : Type 0 where
   pub kind : of_kind b.state.kind x ≡ true
   pub room : b.state.rows + suc n ≤ rows_room b
-  pub stores : why_store b x ≡ Accepted
+  pub stores : why_store b x ≡ accepted
 
-pub valued : (n : ℕ) (b : Builder) (x : List ℕ) → why_values (suc n) b x ≡ Accepted → Valued n b x
+pub valued : (n : ℕ) (b : Builder) (x : List ℕ) → why_values (suc n) b x ≡ accepted → Valued n b x
 unfolding why_values why_rows
 valued n b x w =
     let p = passed _ _ _ (rw (ne_eqb (suc n) 0 (λ e. omega arith)) at (passed _ _ _ w).1) in
@@ -219,7 +219,7 @@ put-kind x b = by (is_short (length x)) (is_row (found b x))
     by false true = refl
     by false false = same_kind (length x) (enter (found b x) b)
 
-pub inv-values : {m : ℕ} (n : ℕ) (b : Builder) (xs : List Cell) (x : List ℕ) → Inv m b xs → why_values n b x ≡ Accepted
+pub inv-values : {m : ℕ} (n : ℕ) (b : Builder) (xs : List Cell) (x : List ℕ) → Inv m b xs → why_values n b x ≡ accepted
     → Inv m (put_values n x b) (xs ++ replicate n (cell x true))
 inv-values {m} zero b xs x i w = rw (put-zero x b, append-nil xs) i
 inv-values {m} (suc n) b xs x i w =
@@ -240,7 +240,7 @@ unfolding well_formed first_bad bad_after
 empty-kind Binary = refl
 empty-kind Text = refl
 
-pub inv-null : {m : ℕ} (b : Builder) (xs : List Cell) → Inv m b xs → why_null b ≡ Accepted → Inv m (put_null b) (xs ++ no_value ∷ [])
+pub inv-null : {m : ℕ} (b : Builder) (xs : List Cell) → Inv m b xs → why_null b ≡ accepted → Inv m (put_null b) (xs ++ no_value ∷ [])
 unfolding why_null put_null
 inv-null b xs i w =
     let room = passed _ _ _ (passed _ _ _ w).1 in

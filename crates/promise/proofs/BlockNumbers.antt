@@ -1,4 +1,5 @@
 -- A state that a call accepts fits, so its blocks are no more than a column may have, and the number of the next one is as small. Assumes nothing.
+use Rattle.std.specs.Prelude.{Ok, Err}
 use mathlib.Core.Path.{◌≡◌, refl}
 use mathlib.Core.Bool.{Bool, true, false}
 use Prim.Native.Nat.{ℕ, ◌≤◌}
@@ -6,10 +7,8 @@ use native.Mathlib.Omega.{arith}
 use borrow.Author.Tests.{lt-leb, not-false}
 use lib.ListN.{length}
 use Rattle.bounds.specs.Bounds.{block_limit, block-limit-small}
-use Rattle.bounds.specs.Refusals.{refuse}
+use Rattle.bounds.specs.Refusals.{refuse, accepted, Why}
 use Rattle.bounds.specs.declared.Refusal.{Refusal}
-use Rattle.bounds.specs.declared.Why.{Why}
-use Rattle.bounds.specs.declared.Why.TheVariants.{Accepted, Refused}
 use Rattle.column.specs.Lent.{block_room}
 use Rattle.showing.specs.Rooms.{passed}
 use Rattle.builder.specs.State.{Builder, all_blocks, fits_state}
@@ -23,7 +22,7 @@ use Rattle.promise.specs.BlockNumbers.{block_for, word_end, then_tried, NumbersF
 use Rattle.promise.proofs.Fits.{fits-are}
 
 -- every call tries first whether the state fits
-accepted-fits : (c : Call) (b : Builder) → why c b ≡ Accepted → fits_state b ≡ true
+accepted-fits : (c : Call) (b : Builder) → why c b ≡ accepted → fits_state b ≡ true
 unfolding why_values why_null why_block why_view why_column why_finish
 accepted-fits (adds_values n x) b e = not-false _ (passed _ _ _ e).0
 accepted-fits adds_null b e = not-false _ (passed _ _ _ e).0
@@ -33,7 +32,7 @@ accepted-fits (adds_column l c) b e = not-false _ (passed _ _ _ e).0
 accepted-fits finish_copy b e = not-false _ (passed _ _ _ e).0
 accepted-fits finish b e = not-false _ (passed _ _ _ e).0
 
-got-fits : (b : Builder) (r : ℕ) → why_get b r ≡ Accepted → fits_state b ≡ true
+got-fits : (b : Builder) (r : ℕ) → why_get b r ≡ accepted → fits_state b ≡ true
 unfolding why_get
 got-fits b r e = not-false _ (passed _ _ _ e).0
 
@@ -41,10 +40,10 @@ few-blocks : (b : Builder) → fits_state b ≡ true → all_blocks b.state ≤ 
 unfolding block_room
 few-blocks b e = omega (arith, (fits-are b e).blocks)
 
-untouched : (r : Refusal) (t : Bool) (w : Why) → (w ≡ Accepted → t ≡ false) → then_tried r t w ≡ w
+untouched : (r : Refusal) (t : Bool) (w : Why) → (w ≡ accepted → t ≡ false) → then_tried r t w ≡ w
 unfolding refuse
-untouched r t Accepted h = rw (h refl)
-untouched r t (Refused q) h = refl
+untouched r t (Ok _) h = rw (h refl)
+untouched r t (Err q) h = refl
 
 pub numbers_fit : NumbersFit
 numbers_fit =

@@ -6,8 +6,7 @@ use Prim.Native.Nat.{ℕ, zero, suc}
 use native.Mathlib.Omega.{arith}
 use lib.ListN.{length, length-set}
 use Rattle.basis.specs.Pick.{pick}
-use Rattle.bounds.specs.declared.Why.{Why}
-use Rattle.bounds.specs.declared.Why.TheVariants.{Accepted}
+use Rattle.bounds.specs.Refusals.{Why, accepted}
 use Rattle.views.specs.View.{is_short, short_view, view_at}
 use Rattle.merging.specs.Table.{is_row, row_of}
 use Rattle.column.specs.declared.Block.{Block}
@@ -113,7 +112,7 @@ module _ (c : Call) (h : Slices) (r : Answer) (h' : Slices) (m : CallMet c h r h
   abbrev was : Builder
   was = held_in h
 
-  pub met-why : why c was ≡ Accepted
+  pub met-why : why c was ≡ accepted
   met-why = sym (ap (λ (a : Answer). a.why) m.does.answers) ∙ m.accepted
 
   leaves : left (why c) (put c) was ≡ put c was

@@ -1,4 +1,5 @@
 -- An appended column's rows show what they showed there. Assumes nothing.
+use Rattle.bounds.specs.Refusals.{accepted}
 use mathlib.Core.Path.{◌≡◌, refl, sym, ap, ◌∙◌, subst}
 use mathlib.Core.Bool.{Bool, true, false}
 use mathlib.Core.List.{List, [], ◌∷◌, ◌++◌, append-nil, append_assoc}
@@ -13,7 +14,6 @@ use Rattle.basis.specs.Pick.{pick}
 use Rattle.words.specs.Words.{enc, dec}
 use Rattle.words.specs.ListLaws.{length-enc, dec-enc, word-dec}
 use Rattle.bounds.specs.Bounds.{block-limit-small}
-use Rattle.bounds.specs.declared.Why.TheVariants.{Accepted}
 use Rattle.views.specs.View.{view_size, short_most, is_short, length_of, prefix_of, block_of, offset_of}
 use Rattle.views.specs.ViewLaws.{drop-take}
 use Rattle.column.specs.declared.Kind.{Kind}
@@ -132,7 +132,7 @@ pub record Joined (b : Builder) (l : Lent) (c : Column) : Type 0 where
   pub inside : all_in_data l c.blocks ≡ true
   pub bytes : used b.state + sizes l c.blocks ≤ data_room b.lent
 
-pub joined : (b : Builder) (l : Lent) (c : Column) → why_column l c b ≡ Accepted → Joined b l c
+pub joined : (b : Builder) (l : Lent) (c : Column) → why_column l c b ≡ accepted → Joined b l c
 unfolding why_column
 joined b l c w =
     let p = passed _ _ _ w in

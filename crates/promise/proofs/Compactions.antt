@@ -1,4 +1,5 @@
 -- What compaction keeps of any valid column. Assumes nothing.
+use Rattle.std.specs.Prelude.{Ok}
 use mathlib.Core.Path.{◌≡◌, refl, sym, ap, ◌∙◌}
 use mathlib.Core.Bool.{Bool, true, false, not}
 use mathlib.Core.Logic.{by_cases}
@@ -11,9 +12,8 @@ use borrow.Author.Tests.{le-ltb, leb-true, not-false}
 use lib.ListN.{length}
 use Rattle.basis.specs.Pick.{pick}
 use Rattle.bounds.specs.Bounds.{most_compaction}
-use Rattle.bounds.specs.Refusals.{refuse}
+use Rattle.bounds.specs.Refusals.{refuse, accepted}
 use Rattle.bounds.specs.declared.Refusal.TheVariants.{Fit, Range}
-use Rattle.bounds.specs.declared.Why.TheVariants.{Accepted}
 use Rattle.views.specs.View.{length_of, is_short}
 use Rattle.column.specs.declared.Block.{Block}
 use Rattle.column.specs.declared.Column.{Column}
@@ -27,7 +27,6 @@ use Rattle.showing.specs.Truths.{AllIn}
 use Rattle.showing.specs.Shows.{Shows}
 use Rattle.showing.proofs.ShowsLaws.{true-rows}
 use Rattle.reading.specs.Reading.{why_fit, buffer_bytes, total_buffer_bytes_used}
-use Rattle.reading.specs.declared.Number.TheVariants as number
 use Rattle.validity.specs.Check.{why_invalid}
 use Rattle.laying.specs.Rooms.{why_rooms}
 use Rattle.laying.specs.Written.{total, starts_from}
@@ -56,15 +55,15 @@ record Valid (l : Lent) (c : Column) : Type 0 where
   truth : (r : ℕ) → r < c.rows → true_at c.kind l c r ≡ true
   inside : AllIn l c.blocks
 
-valid : (l : Lent) (c : Column) → why_invalid l c ≡ Accepted → Valid l c
+valid : (l : Lent) (c : Column) → why_invalid l c ≡ accepted → Valid l c
 unfolding why_invalid
 valid l c v =
     let f = passed Fit (not (fits l c)) _ v in
     let t = all-passed (true_at c.kind l c) c.rows _ f.1 in
-    let i = passed Range (not (all_in_data l c.blocks)) Accepted t.1 in
+    let i = passed Range (not (all_in_data l c.blocks)) accepted t.1 in
     record { fitted = not-false (fits l c) f.0; truth = t.0; inside = inside-all l c.blocks (not-false (all_in_data l c.blocks) i.0) }
 
-pub valid-shows : (l : Lent) (c : Column) → why_invalid l c ≡ Accepted → Shows l c (rows_of (shown_at l c) c.rows) (bits_of l c)
+pub valid-shows : (l : Lent) (c : Column) → why_invalid l c ≡ accepted → Shows l c (rows_of (shown_at l c) c.rows) (bits_of l c)
 valid-shows l c v =
     let p = valid l c v in
     record { rows = true-rows c.kind l c p.fitted p.truth; bits = refl; fitted = p.fitted; inside = p.inside }
@@ -101,7 +100,7 @@ lens-records at [] = refl
 lens-records at (n ∷ ns) = ap (λ (r : List ℕ). n ∷ r) (lens-records (at + n) ns)
 
 module _ (most : ℕ) (l : Lent) (c : Column) (out : Lent) where
-  judges : why_invalid l c ≡ Accepted → most ≤ most_compaction
+  judges : why_invalid l c ≡ accepted → most ≤ most_compaction
       → why_compact most l c out ≡ why_rooms c.mapped c.rows (length (new_lens most l c)) (total (long_lens l c c.rows)) out
   unfolding why_compact refuse
   judges v h =
@@ -109,11 +108,11 @@ module _ (most : ℕ) (l : Lent) (c : Column) (out : Lent) where
       rw (le-ltb most_compaction most h, p.fitted) (sym (lowest-none (true_at c.kind l c) c.rows (why_rooms c.mapped c.rows
       (length (new_lens most l c)) (total (long_lens l c c.rows)) out) p.truth))
 
-  module _ (a : why_compact most l c out ≡ Accepted) where
-    shows : why_invalid l c ≡ Accepted → Alike l c (compacted most l c out) (compact_column most l c)
+  module _ (a : why_compact most l c out ≡ accepted) where
+    shows : why_invalid l c ≡ accepted → Alike l c (compacted most l c out) (compact_column most l c)
     shows v = shows_alike l c (compacted most l c out) (compact_column most l c) refl (valid-shows l c v) (compacted-alike most l c out a)
 
-    checks : why_invalid (compacted most l c out) (compact_column most l c) ≡ Accepted
+    checks : why_invalid (compacted most l c out) (compact_column most l c) ≡ accepted
     unfolding why_invalid refuse
     checks =
         let s = compacted-alike most l c out a in
@@ -121,16 +120,16 @@ module _ (most : ℕ) (l : Lent) (c : Column) (out : Lent) where
         let n : ℕ = length (new_lens most l c) in
         rw (
           s.fitted,
-          ← lowest-none (true_at c.kind m (compact_column most l c)) c.rows (refuse Range (not (all_in_data m n)) Accepted) (compacted-true most l c out a),
+          ← lowest-none (true_at c.kind m (compact_column most l c)) c.rows (refuse Range (not (all_in_data m n)) accepted) (compacted-true most l c out a),
           all-inside m n s.inside,
         )
 
     pub new-lens : lens_of_first (compacted most l c out) (length (new_lens most l c)) ≡ new_lens most l c
     new-lens = ap (map (λ (b : Block). b.len)) (table-front-is most l c out) ∙ lens-records 0 (new_lens most l c)
 
-    used : total_buffer_bytes_used l c ≡ number.Is (total (lens_of_first (compacted most l c out) (compact_column most l c).blocks))
+    used : total_buffer_bytes_used l c ≡ Ok (total (lens_of_first (compacted most l c out) (compact_column most l c).blocks))
     unfolding total_buffer_bytes_used why_fit refuse
-    used = rw (room most l c out a).fitted (ap number.Is (buffer-total l c c.rows ∙ sym (lens-total most (long_lens l c c.rows))
+    used = rw (room most l c out a).fitted (ap Ok (buffer-total l c c.rows ∙ sym (lens-total most (long_lens l c c.rows))
         ∙ ap total (sym new-lens)))
 
 pub compactions : Compactions

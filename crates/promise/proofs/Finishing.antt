@@ -9,9 +9,8 @@ use borrow.Author.Tests.{not-false, le-leb}
 use lib.ListN.{length, get_or, length-map, length-replicate}
 use Rattle.null_bits.specs.Bits as bits
 use Rattle.null_bits.specs.Bits.{is_valid}
-use Rattle.bounds.specs.Refusals.{refuse}
+use Rattle.bounds.specs.Refusals.{refuse, accepted}
 use Rattle.bounds.specs.declared.Refusal.TheVariants.{Range}
-use Rattle.bounds.specs.declared.Why.TheVariants.{Accepted}
 use Rattle.growth.specs.Growing.{fits_growth}
 use Rattle.growth.specs.GrowthLaws.{start_fits}
 use Rattle.views.specs.View.{view_at}
@@ -50,7 +49,7 @@ unfolding fits_growth
 lawful-fits Doubled e = start_fits
 lawful-fits (Same n) e = e
 
-pub inv-start : (t : Settings) (l : Lent) (places : List ℕ) → why_start t ≡ Accepted → Inv (rows_room (start t l places)) (start t l places) []
+pub inv-start : (t : Settings) (l : Lent) (places : List ℕ) → why_start t ≡ accepted → Inv (rows_room (start t l places)) (start t l places) []
 unfolding why_start start rows_of any_null all_blocks
 inv-start t l places w =
     let lawful = both (lawful_sizes t.sizes) (lawful_merging t.merging) (not-false _ (passed _ _ _ w).0) in
@@ -163,14 +162,14 @@ kind_at k [] knil r h = absurd (not-suc-le-zero h)
 kind_at k (x ∷ xs) (kcons e f) zero h = e
 kind_at k (x ∷ xs) (kcons e f) (suc r) h = kind_at k xs f r (le_of_suc-le-suc h)
 
-pub check-shown : (xs : List Cell) {l : Lent} {c : Column} {bs : List Bool} → Shows l c (map bytes_in xs) bs → OfKind c.kind xs → why_invalid l c ≡ Accepted
+pub check-shown : (xs : List Cell) {l : Lent} {c : Column} {bs : List Bool} → Shows l c (map bytes_in xs) bs → OfKind c.kind xs → why_invalid l c ≡ accepted
 unfolding why_invalid refuse
 check-shown xs {l} {c} s o =
     let good : (r : ℕ) → r < c.rows → true_at c.kind l c r ≡ true =
     λ r h. row-true l c.kind c.blocks s.inside (shows-row s r h) (kind_at c.kind xs o r (omega (arith, shows-rows s, length-map xs bytes_in))) in
     rw (
       s.fitted,
-      ← lowest-none (true_at c.kind l c) c.rows (refuse Range (not (all_in_data l c.blocks)) Accepted) good,
+      ← lowest-none (true_at c.kind l c) c.rows (refuse Range (not (all_in_data l c.blocks)) accepted) good,
       all-inside l
           c.blocks s.inside,
     )

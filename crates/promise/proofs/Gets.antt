@@ -1,4 +1,5 @@
 -- While it is built, every row can be got, and is what was put there. Assumes nothing.
+use Rattle.std.specs.Prelude.{Ok, Err}
 use mathlib.Core.Path.{◌≡◌, refl, sym, ◌∙◌, subst}
 use mathlib.Core.Bool.{true, true≢false}
 use mathlib.Core.List.{List, [], map}
@@ -7,9 +8,7 @@ use native.Mathlib.Nat.{zero-add}
 use native.Mathlib.Omega.{arith}
 use borrow.Author.Tests.{leb-false, lt-leb}
 use lib.ListN.{length, get_or, length-map}
-use Rattle.bounds.specs.Refusals.{refuse, is_accepted}
-use Rattle.bounds.specs.declared.Why.{Why}
-use Rattle.bounds.specs.declared.Why.TheVariants.{Accepted, Refused}
+use Rattle.bounds.specs.Refusals.{refuse, is_accepted, accepted, Why}
 use Rattle.order.specs.Order.{same}
 use Rattle.order.proofs.OrderLaws.{same_true}
 use Rattle.views.specs.View.{view_at}
@@ -28,9 +27,9 @@ use Rattle.promise.proofs.Fits.{are-fits, block-table, sizes-complete}
 use Rattle.promise.proofs.Blocks.{below-complete}
 use Rattle.promise.proofs.Steps.{Inv, row-of}
 
-pub is-accepted : (w : Why) → is_accepted w ≡ true → w ≡ Accepted
-is-accepted Accepted e = refl
-is-accepted (Refused r) e = absurd (true≢false (sym e))
+pub is-accepted : (w : Why) → is_accepted w ≡ true → w ≡ accepted
+is-accepted (Ok _) e = refl
+is-accepted (Err r) e = absurd (true≢false (sym e))
 
 -- the rows are as many as the cells
 pub rows_are : {m : ℕ} (b : Builder) (xs : List Cell) → Inv m b xs → b.state.rows ≡ length xs
@@ -49,7 +48,7 @@ module _ {m : ℕ} (b : Builder) (xs : List Cell) (i : Inv m b xs) where
   reached : (r : ℕ) → r < b.state.rows → reachable (recorded b.state b.lent) (all_blocks b.state) (view_at b.lent.views r) ≡ true
   reached r h = row-reachable (recorded b.state b.lent) (all_blocks b.state) all_in (shows-at r h)
 
-  pub get-why : (r : ℕ) → r < b.state.rows → why_get b r ≡ Accepted
+  pub get-why : (r : ℕ) → r < b.state.rows → why_get b r ≡ accepted
   unfolding why_get refuse recorded
   get-why r h = rw (are-fits b i.fits, lt-leb b.state.rows r h, zero-add r, reached r h)
 
@@ -66,7 +65,7 @@ module _ {m : ℕ} (b : Builder) (xs : List Cell) (i : Inv m b xs) where
   unfolding hits why_get
   hit-row x r e =
       let p = both (is_accepted (why_get b r)) _ e in
-      let w : why_get b r ≡ Accepted = is-accepted (why_get b r) p.0 in
+      let w : why_get b r ≡ accepted = is-accepted (why_get b r) p.0 in
       let q = passed _ _ _ (passed _ _ _ w).1 in
       let h : r < b.state.rows = leb-false _ _ q.0 in
       let shows : get_value b r ≡ x = same_true _ _ p.1 in

@@ -1,4 +1,5 @@
 -- Every accepted call keeps what the rows show and adds rows that show what it puts there, so that every row is kept. Assumes nothing.
+use Rattle.std.specs.Prelude.{Ok}
 use mathlib.Core.Path.{◌≡◌, refl, sym, ap, ◌∙◌, subst}
 use mathlib.Core.Bool.{true}
 use mathlib.Core.List.{List, [], ◌∷◌, ◌++◌, map, map-append, append-nil}
@@ -6,8 +7,7 @@ use Prim.Native.Nat.{ℕ, zero, suc, ◌<◌}
 use native.Mathlib.Nat.{le_of_suc-le-suc, not-suc-le-zero}
 use native.Mathlib.Omega.{arith}
 use lib.ListN.{length, get_or, length-map, get_or-map}
-use Rattle.bounds.specs.Refusals.{refuse, is_accepted}
-use Rattle.bounds.specs.declared.Why.TheVariants.{Accepted}
+use Rattle.bounds.specs.Refusals.{refuse, is_accepted, accepted, answered}
 use Rattle.column.specs.declared.Kind.{Kind}
 use Rattle.column.specs.declared.Column.{Column}
 use Rattle.column.specs.Lent.{Lent}
@@ -17,11 +17,10 @@ use Rattle.showing.specs.Shows.{Shows}
 use Rattle.showing.proofs.ShowsLaws.{shows-rows}
 use Rattle.order.specs.Order.{cmp}
 use Rattle.comparison.specs.Compare.{compare_rows, order_of}
-use Rattle.comparison.specs.declared.Compared.TheVariants as compared
 use Rattle.compaction.proofs.Compacted.{compacted-shows}
 use Rattle.offsets.specs.Offsets.{Source, rows_in, valid_row, value_in, why_offsets, from_offsets, offset_column}
 use Rattle.offsets.proofs.Shown.{offsets-shows, offsets-kind}
-use Rattle.reading.specs.Reading.{why_value, value_at, bit_of, bit_when}
+use Rattle.reading.specs.Reading.{why_value, value_at, bit_of}
 use Rattle.builder.specs.State.{Builder, rows_room}
 use Rattle.builder.specs.Start.{start}
 use Rattle.builder.specs.Get.{column_of}
@@ -43,7 +42,7 @@ use Rattle.promise.proofs.Standing.{done-block, stays_put}
 none_more : {m : ℕ} (b : Builder) (xs : List Cell) → Inv m b xs → Inv m b (xs ++ [])
 none_more {m} b xs i = subst (λ (ys : List Cell). Inv m b ys) (sym (append-nil xs)) i
 
-pub inv-put : {m : ℕ} (c : Call) (b : Builder) (xs : List Cell) → Inv m b xs → why c b ≡ Accepted → Inv m (put c b) (cells_after c b xs)
+pub inv-put : {m : ℕ} (c : Call) (b : Builder) (xs : List Cell) → Inv m b xs → why c b ≡ accepted → Inv m (put c b) (cells_after c b xs)
 inv-put (adds_values n x) b xs i w = inv-values n b xs x i w
 inv-put adds_null b xs i w = inv-null b xs i w
 inv-put (adds_block x) b xs i w = none_more _ xs (inv-block b xs x i w)
@@ -71,28 +70,28 @@ module _ (xs : List Cell) {l : Lent} {c : Column} (s : Shows l c (map bytes_in x
   pub rows-shown : c.rows ≡ length xs
   rows-shown = shows-rows s ∙ length-map xs bytes_in
 
-  pub why-shown : (i : ℕ) → i < length xs → why_value l c i ≡ Accepted
+  pub why-shown : (i : ℕ) → i < length xs → why_value l c i ≡ accepted
   why-shown i h = why-shows s i (omega (arith, rows-shown))
 
   pub value-shown : (i : ℕ) → i < length xs → value_at l c i ≡ (get_or xs i no_value).bytes
   value-shown i h = value-shows s i (omega (arith, rows-shown)) ∙ cell-bytes xs i
 
-  pub bit-shown : (i : ℕ) → i < length xs → bit_of l c i ≡ bit_when Accepted (get_or xs i no_value).valid
-  bit-shown i h = bit-shows s i (omega (arith, rows-shown)) ∙ ap (bit_when Accepted) (cell-bit xs i h)
+  pub bit-shown : (i : ℕ) → i < length xs → bit_of l c i ≡ answered accepted (get_or xs i no_value).valid
+  bit-shown i h = bit-shows s i (omega (arith, rows-shown)) ∙ ap (answered accepted) (cell-bit xs i h)
 
 module _ (xs ys : List Cell) {l : Lent} {c : Column} {m : Lent} {d : Column}
     (s : Shows l c (map bytes_in xs) (map valid_in xs)) (t : Shows m d (map bytes_in ys) (map valid_in ys)) where
   compare-shown : (i j : ℕ) → i < length xs → j < length ys
-      → compare_rows l c i m d j ≡ compared.Is (order_of (cmp (get_or xs i no_value).bytes (get_or ys j no_value).bytes))
+      → compare_rows l c i m d j ≡ Ok (order_of (cmp (get_or xs i no_value).bytes (get_or ys j no_value).bytes))
   compare-shown i j h k =
       compare-shows s t i j (omega (arith, rows-shown xs s)) (omega (arith, rows-shown ys t))
-      ∙ ap (λ (x : List ℕ). compared.Is (order_of (cmp x (get_or (map bytes_in ys) j [])))) (cell-bytes xs i)
-      ∙ ap (λ (y : List ℕ). compared.Is (order_of (cmp (get_or xs i no_value).bytes y))) (cell-bytes ys j)
+      ∙ ap (λ (x : List ℕ). Ok (order_of (cmp x (get_or (map bytes_in ys) j [])))) (cell-bytes xs i)
+      ∙ ap (λ (y : List ℕ). Ok (order_of (cmp (get_or xs i no_value).bytes y))) (cell-bytes ys j)
 
 -- ---- what is kept
 
 module _ {m : ℕ} (b : Builder) (xs : List Cell) (i : Inv m b xs) where
-  finishes : why_finish b ≡ Accepted
+  finishes : why_finish b ≡ accepted
   unfolding why_finish refuse
   finishes = rw (are-fits b i.fits)
 

@@ -1,5 +1,6 @@
 -- Over a merge table that holds, a long value that merges takes the view of its target. Start makes such a table, and so does finish; every accepted
 -- call keeps it. What is needed of the rows is that each shows its bytes. Assumes nothing.
+use Rattle.bounds.specs.Refusals.{accepted}
 use mathlib.Core.Path.{◌≡◌, refl, sym, ap, subst, ◌∙◌}
 use mathlib.Core.Bool.{Bool, true, false, true≢false}
 use mathlib.Core.List.{List, [], ◌∷◌, ◌++◌}
@@ -12,7 +13,6 @@ use lib.Seq.{get_or_at}
 use Rattle.basis.specs.Pick.{pick}
 use Rattle.order.specs.Order.{same}
 use Rattle.hash.specs.Hash.{hash_of}
-use Rattle.bounds.specs.declared.Why.TheVariants.{Accepted}
 use Rattle.views.specs.ViewLaws.{view-stored}
 use Rattle.views.specs.View.{view_size, short_most, is_short, short_view, zero_view, make_view, view_at}
 use Rattle.merging.specs.declared.Found.{Found}
@@ -112,7 +112,7 @@ places-are Off n p e = absurd (true≢false (sym e))
 places-are On n p e = refl
 places-are (UpTo k) n p e = refl
 
-value_room : (n : ℕ) (b : Builder) (x : List ℕ) → why_values (suc n) b x ≡ Accepted → b.state.rows + suc n ≤ places_room b.state.merging
+value_room : (n : ℕ) (b : Builder) (x : List ℕ) → why_values (suc n) b x ≡ accepted → b.state.rows + suc n ≤ places_room b.state.merging
     (length b.places)
 unfolding rows_room
 value_room n b x e = let p : Valued n b x = valued n b x e in omega (arith, p.room)
@@ -158,11 +158,11 @@ module _ (m : Merging) (b : Builder) (k : Memo) (g : Table m b k) (s : Reads b k
     rest : (n : ℕ) (c : Builder) → put_value x b ≡ c → put_values (suc n) x b ≡ again n b.state.rows c
     rest n c e = put-suc n x b ∙ ap (again n b.state.rows) e
 
-    first-view : (n : ℕ) (v : List ℕ) → length v ≡ view_size → why_values (suc n) b x ≡ Accepted → view_at (add_row v true b).lent.views b.state.rows ≡ v
+    first-view : (n : ℕ) (v : List ℕ) → length v ≡ view_size → why_values (suc n) b x ≡ accepted → view_at (add_row v true b).lent.views b.state.rows ≡ v
     unfolding add_row
     first-view n v e w = let p : Valued n b x = valued n b x w in view-stored b.lent.views v b.state.rows e (omega (arith, p.room, row-views b))
 
-    pub takes-it : (n : ℕ) → short_most < length x → why_values (suc n) b x ≡ Accepted → Takes (target m k x) n x b
+    pub takes-it : (n : ℕ) → short_most < length x → why_values (suc n) b x ≡ accepted → Takes (target m k x) n x b
     takes-it n h w = rw (← found-is) (go (found b x) refl)
       where
         go : (f : Found) → found b x ≡ f → Takes (table.row_of f) n x b
@@ -214,7 +214,7 @@ module _ (m : Merging) (b : Builder) (k : Memo) (g : Table m b k) (s : Reads b k
             (omega (arith, a.rows)));
       }
 
-  module _ (n : ℕ) (x : List ℕ) (w : why_values (suc n) b x ≡ Accepted) where
+  module _ (n : ℕ) (x : List ℕ) (w : why_values (suc n) b x ≡ accepted) where
     abbrev all : List Cell
     all = k.rows ++ replicate (suc n) (cell x true)
 
@@ -352,7 +352,7 @@ table-finish m b e =
     subst (λ (z : Merging). Table z (finished b) (memo [] [])) e (record { setting = refl; holds = cleared-table b.state.merging b.places })
 
 -- any call: what the rows of a view or a column show doesn't matter, for none of them becomes a target
-pub table-put : (m : Merging) (b : Builder) (k : Memo) → Table m b k → Reads b k.rows → (c : Call) → why c b ≡ Accepted → Table m (put c b) (recall m c b k)
+pub table-put : (m : Merging) (b : Builder) (k : Memo) → Table m b k → Reads b k.rows → (c : Call) → why c b ≡ accepted → Table m (put c b) (recall m c b k)
 table-put m b k g s (adds_values zero x) w = table_none m b k g s x
 table-put m b k g s (adds_values (suc n) x) w = table-values m b k g s n x w
 table-put m b k g s adds_null w = table_more m b k g s (put_null b) 1 (cells_added adds_null b) (adds-null m b k g s)

@@ -1,4 +1,5 @@
 -- Each accepted block, view or finish-by-copy call keeps what the rows show, and a view's row shows the named part. Assumes nothing.
+use Rattle.bounds.specs.Refusals.{accepted}
 use mathlib.Core.Path.{◌≡◌, refl, sym, ap, ◌∙◌, subst}
 use mathlib.Core.Bool.{Bool, true, false}
 use mathlib.Core.List.{List, [], ◌∷◌, ◌++◌, append-nil, append_assoc}
@@ -10,7 +11,6 @@ use lib.ListN.{length, take, drop, get_or, set, length-append, length-drop, get_
 use lib.Seq.{paste, paste-zero, take-paste, drop-paste, take-length, drop-drop, length-paste, length-take-le, get_or-set_other, set-set}
 use Rattle.basis.specs.Pick.{pick}
 use Rattle.bounds.specs.Bounds.{block-limit-small, byte-limit-small}
-use Rattle.bounds.specs.declared.Why.TheVariants.{Accepted}
 use Rattle.views.specs.View.{is_short, make_view}
 use Rattle.views.specs.ViewLaws.{make-short, make-long}
 use Rattle.column.specs.declared.Block.{Block}
@@ -240,7 +240,7 @@ module _ {m : ℕ} (b : Builder) (xs : List Cell) (ys : List (List ℕ)) (i : In
         room = rows_whole ∙ i.room;
       }
 
-pub roomed-blocks : (n bytes : ℕ) (b : Builder) → why_room b.state (block_room b.lent) (data_room b.lent) n bytes ≡ Accepted
+pub roomed-blocks : (n bytes : ℕ) (b : Builder) → why_room b.state (block_room b.lent) (data_room b.lent) n bytes ≡ accepted
     → (all_blocks b.state + n ≤ block_room b.lent) × (used b.state + bytes ≤ data_room b.lent)
 unfolding why_room
 roomed-blocks n bytes b w =
@@ -252,7 +252,7 @@ pub one-flat : (x : List ℕ) → length (flat (x ∷ [])) ≡ length x
 unfolding flat
 one-flat x = rw (append-nil x)
 
-pub inv-block : {m : ℕ} (b : Builder) (xs : List Cell) (x : List ℕ) → Inv m b xs → why_block b x ≡ Accepted → Inv m (put_block x b) xs
+pub inv-block : {m : ℕ} (b : Builder) (xs : List Cell) (x : List ℕ) → Inv m b xs → why_block b x ≡ accepted → Inv m (put_block x b) xs
 unfolding why_block put_block
 inv-block {m} b xs x i w =
     let p = roomed-blocks 1 (length x) b (passed _ _ _ (passed _ _ _ w).1).1 in
@@ -267,7 +267,7 @@ pub record Ranged (b : Builder) (k offset n : ℕ) : Type 0 where
   pub kind : of_kind b.state.kind (viewed b k offset n) ≡ true
   pub room : b.state.rows < rows_room b
 
-pub ranged : (b : Builder) (k offset n : ℕ) → why_view b k offset n ≡ Accepted → Ranged b k offset n
+pub ranged : (b : Builder) (k offset n : ℕ) → why_view b k offset n ≡ accepted → Ranged b k offset n
 unfolding why_view
 ranged b k offset n w =
     let p = passed _ _ _ (passed _ _ _ w).1 in

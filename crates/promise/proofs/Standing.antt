@@ -1,4 +1,5 @@
 -- No accepted call changes a completed block. Assumes nothing.
+use Rattle.bounds.specs.Refusals.{accepted}
 use mathlib.Core.Path.{◌≡◌, refl, sym, ap, ◌∙◌, subst}
 use mathlib.Core.Bool.{Bool, true, false}
 use mathlib.Core.List.{List, [], ◌∷◌, ◌++◌, append-nil, append_assoc}
@@ -8,7 +9,6 @@ use borrow.Author.Tests.{leb-false}
 use lib.ListN.{length, set}
 use lib.Seq.{take-set-le}
 use Rattle.basis.specs.Pick.{pick}
-use Rattle.bounds.specs.declared.Why.TheVariants.{Accepted}
 use Rattle.views.specs.View.{short_most, is_short, short_view, view_at}
 use Rattle.merging.specs.declared.Found.{Found}
 use Rattle.merging.specs.declared.Found.TheVariants.{Row, Free, Full}
@@ -99,31 +99,31 @@ module _ {m : ℕ} (b : Builder) (xs : List Cell) (x : List ℕ) (i : Inv m b xs
   grows-laid : (f : Found) → short_most < length x → Takes b (length x) → Grows b (store x (make_room (length x) (enter f b)))
   grows-laid f long w = grows-store (enter f b) xs x (inv-enter f b xs i) long w
 
-  grows-found : (f : Found) → short_most < length x → pick (is_row f) Accepted (why_lay b.state (block_room b.lent) (data_room b.lent) (length x))
-      ≡ Accepted → Grows b (put_found f x b)
+  grows-found : (f : Found) → short_most < length x → pick (is_row f) accepted (why_lay b.state (block_room b.lent) (data_room b.lent) (length x))
+      ≡ accepted → Grows b (put_found f x b)
   unfolding put_found
   grows-found (Row r) long w = same-done b (add_row (view_at b.lent.views r) true b) (done-row (view_at b.lent.views r) true b)
   grows-found (Free p) long w = grows-laid (Free p) long w
   grows-found Full long w = grows-laid Full long w
 
-  grows-value : why_store b x ≡ Accepted → Grows b (put_value x b)
+  grows-value : why_store b x ≡ accepted → Grows b (put_value x b)
   unfolding why_store put_value
   grows-value w = by (is_short (length x)) refl w
     where
       by : (t : Bool) → is_short (length x) ≡ t
-          → pick t Accepted (pick (is_row (found b x)) Accepted (why_lay b.state (block_room b.lent) (data_room b.lent) (length x))) ≡ Accepted
+          → pick t accepted (pick (is_row (found b x)) accepted (why_lay b.state (block_room b.lent) (data_room b.lent) (length x))) ≡ accepted
           → Grows b (pick t (add_row (short_view x) true b) (put_found (found b x) x b))
       by true e w = same-done b (add_row (short_view x) true b) (done-row (short_view x) true b)
       by false e w = grows-found (found b x) (leb-false _ _ e) w
 
-  grows-values : (n : ℕ) → why_values n b x ≡ Accepted → Grows b (put_values n x b)
+  grows-values : (n : ℕ) → why_values n b x ≡ accepted → Grows b (put_values n x b)
   grows-values zero w = rw (put-zero x b) (same-done b b refl)
   grows-values (suc n) w =
       let p : Valued n b x = valued n b x w in
       let v : List ℕ = view_at (put_value x b).lent.views b.state.rows in
       rw (put-suc n x b) (grows-on b (put_value x b) (add_rows n v true (put_value x b)) (grows-value p.stores) (done-rows n v (put_value x b)))
 
-  pub done-block : why_block b x ≡ Accepted → done_of (put_block x b) ≡ blocks_now b ++ x ∷ []
+  pub done-block : why_block b x ≡ accepted → done_of (put_block x b) ≡ blocks_now b ++ x ∷ []
   unfolding why_block put_block
   done-block w =
       let p = roomed-blocks 1 (length x) b (passed _ _ _ (passed _ _ _ w).1).1 in
@@ -137,7 +137,7 @@ done-view : (b : Builder) (k offset n : ℕ) → done_of (put_view k offset n b)
 unfolding put_view
 done-view b k offset n = done-row _ true b
 
-pub stays_put : {m : ℕ} (c : Call) (b : Builder) (xs : List Cell) → Inv m b xs → why c b ≡ Accepted → (ys : List (List ℕ))
+pub stays_put : {m : ℕ} (c : Call) (b : Builder) (xs : List Cell) → Inv m b xs → why c b ≡ accepted → (ys : List (List ℕ))
     × (done_of (put c b) ≡ leaves c b ++ ys)
 stays_put (adds_values n x) b xs i w = grows-values b xs x i n w
 stays_put adds_null b xs i w = same-done b (put_null b) (done-null b)

@@ -23,10 +23,8 @@ use Rattle.appending.proofs.append_view.Kinds as view-kinds
 use Rattle.appending.proofs.append_view.Reads as view
 use Rattle.appending.proofs.append_column.Kinds as column-kinds
 use Rattle.appending.proofs.append_column.Reads as column
-use Rattle.bounds.specs.Refusals.{if_accepted}
-use Rattle.bounds.specs.declared.Why.{Why}
-use Rattle.bounds.specs.declared.Why.TheVariants.{Accepted}
-use Rattle.column.specs.Lent.{lent}
+use Rattle.bounds.specs.Refusals.{if_accepted, accepted, Why}
+use Rattle.column.specs.Lent.{lent, lent_of}
 use Rattle.builder.specs.declared.Answer.{Answer}
 use Rattle.builder.specs.State.{Builder, builder}
 use Rattle.builder.specs.Start.{why_start, started, unstarted, start_state, cleared, start_places, start}
@@ -59,7 +57,7 @@ values-out κs z s = record {
 }
 
 pub values-met : (κs : Lfts 7) (a : Dens κs values-kinds.ps) (z : (res_t values-kinds.r κs).Denot)
-    (s : AtExit (ended_of 7 values-kinds.ps values-kinds.r) κs) → values.Post κs a z s → z.why ≡ Accepted
+    (s : AtExit (ended_of 7 values-kinds.ps values-kinds.r) κs) → values.Post κs a z s → z.why ≡ accepted
     → CallMet (adds_values a.1.1.1.1.1.1.1.1.0 a.1.1.1.1.1.1.1.0.now) (values-in κs a) z (values-out κs z s)
 values-met κs a z s p e = record { does = p; accepted = e; state = refl }
 
@@ -87,7 +85,7 @@ value_out κs z s = record {
 }
 
 pub value-met : (κs : Lfts 7) (a : Dens κs value-kinds.ps) (z : (res_t value-kinds.r κs).Denot) (s : AtExit (ended_of 7 value-kinds.ps value-kinds.r) κs)
-    → value.Post κs a z s → z.why ≡ Accepted
+    → value.Post κs a z s → z.why ≡ accepted
     → CallMet (adds_values 1 a.1.1.1.1.1.1.1.0.now) (value_in_lem κs a) z (value_out κs z s)
 value-met κs a z s p e = record { does = p; accepted = e; state = refl }
 
@@ -116,7 +114,7 @@ null-out κs a z s = record {
 }
 
 pub null-met : (κs : Lfts 6) (a : Dens κs null-kinds.ps) (z : (res_t null-kinds.r κs).Denot) (s : AtExit (ended_of 6 null-kinds.ps null-kinds.r) κs)
-    → null.Post κs a z s → z.why ≡ Accepted
+    → null.Post κs a z s → z.why ≡ accepted
     → CallMet adds_null (null-in κs a) z (null-out κs a z s)
 null-met κs a z s p e = record { does = p; accepted = e; state = refl }
 
@@ -144,7 +142,7 @@ block_out κs a z s = record {
 }
 
 pub block-met : (κs : Lfts 7) (a : Dens κs block-kinds.ps) (z : (res_t block-kinds.r κs).Denot) (s : AtExit (ended_of 7 block-kinds.ps block-kinds.r) κs)
-    → block.Post κs a z s → z.answer.why ≡ Accepted
+    → block.Post κs a z s → z.answer.why ≡ accepted
     → CallMet (adds_block a.1.1.1.1.1.1.1.0.now) (block_in κs a) z.answer (block_out κs a z s)
 block-met κs a z s p e = record { does = p.0; accepted = e; state = refl }
 
@@ -172,12 +170,12 @@ view_out κs a z s = record {
 }
 
 pub view-met : (κs : Lfts 6) (a : Dens κs view-kinds.ps) (z : (res_t view-kinds.r κs).Denot) (s : AtExit (ended_of 6 view-kinds.ps view-kinds.r) κs)
-    → view.Post κs a z s → z.why ≡ Accepted
+    → view.Post κs a z s → z.why ≡ accepted
     → CallMet (adds_view a.1.1.1.1.1.1.1.0 a.1.1.1.1.1.1.1.1.0 a.1.1.1.1.1.1.1.1.1.0) (view_in_lem κs a) z (view_out κs a z s)
 view-met κs a z s p e = record { does = p; accepted = e; state = refl }
 
 -- a column, with its own slices
-abbrev column-in : (κs : Lfts 10) → Dens κs column-kinds.ps → Slices
+abbrev column-in : (κs : Lfts 8) → Dens κs column-kinds.ps → Slices
 column-in κs a = record {
   state = a.0;
   views = a.1.0.now;
@@ -188,7 +186,7 @@ column-in κs a = record {
   places = a.1.1.1.1.1.1.0.now;
 }
 
-abbrev column-out : (κs : Lfts 10) → Dens κs column-kinds.ps → (res_t column-kinds.r κs).Denot → AtExit (ended_of 10 column-kinds.ps column-kinds.r) κs → Slices
+abbrev column-out : (κs : Lfts 8) → Dens κs column-kinds.ps → (res_t column-kinds.r κs).Denot → AtExit (ended_of 8 column-kinds.ps column-kinds.r) κs → Slices
 column-out κs a z s = record {
   state = z.state;
   views = s.1.0.now;
@@ -199,10 +197,9 @@ column-out κs a z s = record {
   places = a.1.1.1.1.1.1.0.now;
 }
 
-pub column-met : (κs : Lfts 10) (a : Dens κs column-kinds.ps) (z : (res_t column-kinds.r κs).Denot)
-    (s : AtExit (ended_of 10 column-kinds.ps column-kinds.r) κs) → column.Post κs a z s → z.why ≡ Accepted
-    → CallMet (adds_column (lent a.1.1.1.1.1.1.1.0.now a.1.1.1.1.1.1.1.1.0.now a.1.1.1.1.1.1.1.1.1.0.now
-    a.1.1.1.1.1.1.1.1.1.1.0.now a.1.1.1.1.1.1.1.1.1.1.1.0.now) a.1.1.1.1.1.1.1.1.1.1.1.1.0)
+pub column-met : (κs : Lfts 8) (a : Dens κs column-kinds.ps) (z : (res_t column-kinds.r κs).Denot)
+    (s : AtExit (ended_of 8 column-kinds.ps column-kinds.r) κs) → column.Post κs a z s → z.why ≡ accepted
+    → CallMet (adds_column (lent_of a.1.1.1.1.1.1.1.0) a.1.1.1.1.1.1.1.1.0)
     (column-in κs a) z (column-out κs a z s)
 column-met κs a z s p e = record { does = p; accepted = e; state = refl }
 
@@ -230,7 +227,7 @@ copy-out κs a z s = record {
 }
 
 pub copy_met : (κs : Lfts 6) (a : Dens κs copy-kinds.ps) (z : (res_t copy-kinds.r κs).Denot) (s : AtExit (ended_of 6 copy-kinds.ps copy-kinds.r) κs)
-    → copy.Post κs a z s → z.answer.why ≡ Accepted
+    → copy.Post κs a z s → z.answer.why ≡ accepted
     → CallMet finish_copy (copy-in κs a) z.answer (copy-out κs a z s)
 copy_met κs a z s p e = record { does = p.0; accepted = e; state = refl }
 
@@ -258,7 +255,7 @@ finish-out κs a z s = record {
 }
 
 pub finish-met : (κs : Lfts 6) (a : Dens κs finish-kinds.ps) (z : (res_t finish-kinds.r κs).Denot)
-    (s : AtExit (ended_of 6 finish-kinds.ps finish-kinds.r) κs) → ends.Post κs a z s → z.answer.why ≡ Accepted
+    (s : AtExit (ended_of 6 finish-kinds.ps finish-kinds.r) κs) → ends.Post κs a z s → z.answer.why ≡ accepted
     → CallMet finish (finish-in κs a) z.answer (finish-out κs a z s)
 finish-met κs a z s p e = record { does = p.0; accepted = e; state = refl }
 
@@ -267,12 +264,12 @@ abbrev pub start-out : (κs : Lfts 1) → (res_t start-kinds.r κs).Denot → At
 start-out κs z s vs bs ss ns ms = record { state = z.state; views = vs; bytes = bs; starts = ss; lens = ns; nulls = ms; places = s.1.0.now }
 
 pub start-accepts : (κs : Lfts 1) (a : Dens κs start-kinds.ps) (z : (res_t start-kinds.r κs).Denot) (s : AtExit (ended_of 1 start-kinds.ps start-kinds.r)
-    κs) → begin.Post κs a z s → z.why ≡ Accepted
-    → why_start a.0 ≡ Accepted
+    κs) → begin.Post κs a z s → z.why ≡ accepted
+    → why_start a.0 ≡ accepted
 start-accepts κs a z s p e = sym (ap (λ (r : Answer). r.why) p.0) ∙ e
 
 pub start-met : (κs : Lfts 1) (a : Dens κs start-kinds.ps) (z : (res_t start-kinds.r κs).Denot) (s : AtExit (ended_of 1 start-kinds.ps start-kinds.r) κs)
-    → begin.Post κs a z s → z.why ≡ Accepted
+    → begin.Post κs a z s → z.why ≡ accepted
     → (vs bs ss ns ms : List ℕ) → held_in (start-out κs z s vs bs ss ns ms) ≡ start a.0 (lent vs bs ss ns ms) a.1.0.now
 unfolding start start_state start_places
 start-met κs a z s p e vs bs ss ns ms =
@@ -284,7 +281,7 @@ start-met κs a z s p e vs bs ss ns ms =
 
 -- so what functions leave after it is a builder that calls from a start left, and all that Kept says is said of it
 pub start-reaches : (κs : Lfts 1) (a : Dens κs start-kinds.ps) (z : (res_t start-kinds.r κs).Denot) (s : AtExit (ended_of 1 start-kinds.ps start-kinds.r)
-    κs) → begin.Post κs a z s → z.why ≡ Accepted
+    κs) → begin.Post κs a z s → z.why ≡ accepted
     → (vs bs ss ns ms : List ℕ) (cs : List Call) (h : Slices) → Coded cs (start-out κs z s vs bs ss ns ms) h → Reached (held_in h)
 start-reaches κs a z s p e vs bs ss ns ms cs h d =
     by_calls a.0 (lent vs bs ss ns ms) a.1.0.now cs (held_in h) (start-accepts κs a z s p e)

@@ -1,4 +1,5 @@
 -- Compacting a compacted column at the same maximum makes the same views, records and bytes. Assumes nothing.
+use Rattle.bounds.specs.Refusals.{accepted}
 use mathlib.Core.Path.{◌≡◌, refl, sym, ap, ◌∙◌}
 use mathlib.Core.Bool.{Bool, true, false}
 use mathlib.Core.List.{List, []}
@@ -6,7 +7,6 @@ use Prim.Native.Nat.{ℕ, zero, suc, ◌<◌}
 use native.Mathlib.Omega.{arith}
 use lib.ListN.{length, take, drop}
 use lib.Seq.{take_at}
-use Rattle.bounds.specs.declared.Why.TheVariants.{Accepted}
 use Rattle.views.specs.View.{length_of, is_short}
 use Rattle.column.specs.declared.Column.{Column}
 use Rattle.column.specs.Lent.{Lent}
@@ -56,7 +56,7 @@ table-front-is most l c out =
     take_at (records 0 (new_lens most l c)) (drop (length (records 0 (new_lens most l c))) out.table) (length (new_lens most l c))
     (length-records 0 (new_lens most l c))
 
-module _ (most : ℕ) (l : Lent) (c : Column) (out : Lent) (a : why_compact most l c out ≡ Accepted) where
+module _ (most : ℕ) (l : Lent) (c : Column) (out : Lent) (a : why_compact most l c out ≡ accepted) where
   abbrev new : Lent
   new = compacted most l c out
 
@@ -95,7 +95,7 @@ module _ (most : ℕ) (l : Lent) (c : Column) (out : Lent) (a : why_compact most
           view-long most (row_view new column) (row_shown new column) r (rw (length-again r h) e)
           ∙ rw (length-again r h, lens, value-again r h) (sym (view-long most (row_view l c) (row_shown l c) r e))
 
-  pub twice : (out₂ : Lent) → why_compact most new column out₂ ≡ Accepted → Unchanged new column (compacted most new column out₂) (compact_column most new column)
+  pub twice : (out₂ : Lent) → why_compact most new column out₂ ≡ accepted → Unchanged new column (compacted most new column out₂) (compact_column most new column)
   twice out₂ b =
       let once = room most l c out a in
       let more = room most new column out₂ b in

@@ -1,4 +1,6 @@
 -- Libraries that do nothing useful, each the defined one but for one call, and an input on which each breaks a promise. Assumes nothing.
+use Rattle.bounds.specs.Refusals.{accepted}
+use Rattle.std.specs.Prelude.{Ok, Err, Result}
 use mathlib.Core.Path.{◌≡◌, refl}
 use mathlib.Core.Bool.{true}
 use mathlib.Core.List.{List, [], ◌∷◌}
@@ -6,15 +8,13 @@ use Prim.Native.Nat.{ℕ}
 use native.Mathlib.Omega.{arith}
 use lib.Dec.{eqb, lit<}
 use Rattle.basis.specs.Pick.{pick}
+use Rattle.bounds.specs.declared.Refusal.{Refusal}
 use Rattle.bounds.specs.declared.Refusal.TheVariants.{Fit}
-use Rattle.bounds.specs.declared.Why.TheVariants.{Accepted, Refused}
-use Rattle.order.specs.declared.Order.TheVariants.{Less, Equal}
+use Rattle.std.proofs.Common.{Less, Equal}
 use Rattle.views.specs.View.{view_at}
 use Rattle.column.specs.declared.Column.{Column}
 use Rattle.reading.specs.Reading.{null_run, total_bytes_len}
-use Rattle.reading.specs.declared.Number.TheVariants as number
 use Rattle.comparison.specs.Compare.{compare_rows}
-use Rattle.comparison.specs.declared.Compared.TheVariants as compared
 use Rattle.builder.specs.declared.Sizes.TheVariants.{Doubled}
 use Rattle.builder.specs.State.{Builder, builder, add_row}
 use Rattle.builder.specs.Values.{why_values, put_values}
@@ -25,23 +25,23 @@ use Rattle.promise.proofs.Computed.{computed}
 
 -- refuses all: the empty value in a fresh builder
 abbrev refusing : Library
-refusing = library (λ b x. Refused Fit) (put_values 1) column_of compare_rows null_run total_bytes_len
+refusing = library (λ b x. Err Fit) (put_values 1) column_of compare_rows null_run total_bytes_len
 
 pub not-refusing : Meets refusing → ⊥
 unfolding computed
 not-refusing m =
-    let e : Refused Fit ≡ Accepted = m.exactly (fresh Doubled) [] in
+    let e : Err Fit ≡ accepted = m.exactly (fresh Doubled) [] in
     let z : ◌≡◌ {A = ℕ} 0 1 = cc in
     omega arith
 
 -- compares everything as equal: two codes
 abbrev equating : Library
-equating = library (why_values 1) (put_values 1) column_of (λ l c i m d j. compared.Is Equal) null_run total_bytes_len
+equating = library (why_values 1) (put_values 1) column_of (λ l c i m d j. Ok Equal) null_run total_bytes_len
 
 pub not-equating : Meets equating → ⊥
 unfolding computed append_all accepts
 not-equating m =
-    let e : compared.Is Equal ≡ compared.Is Less = m.orders {t = plain Doubled} {l = bench_lent} {places = []} (mar ∷ may ∷ []) 0 1
+    let e : Ok Equal ≡ Ok Less = m.orders {t = plain Doubled} {l = bench_lent} {places = []} (mar ∷ may ∷ []) 0 1
     (record { start = refl; values = refl; finish = refl }) (lit< tt) (lit< tt) in
     let z : ◌≡◌ {A = ℕ} 0 1 = cc in
     omega arith
@@ -87,21 +87,21 @@ not-blocks m =
     omega arith
 
 abbrev of_nulls : Library
-of_nulls = library (why_values 1) (put_values 1) column_of compare_rows (λ l c first count. number.Is 3) total_bytes_len
+of_nulls = library (why_values 1) (put_values 1) column_of compare_rows (λ l c first count. Ok 3) total_bytes_len
 
 pub not-nulls : Meets of_nulls → ⊥
 unfolding computed
 not-nulls m =
-    let e : number.Is 3 ≡ number.Is 0 = m.nulls bench_lent (column_of (fresh Doubled)) 0 0 in
+    let e : ◌≡◌ {A = Result ℕ Refusal} (Ok 3) (Ok 0) = m.nulls bench_lent (column_of (fresh Doubled)) 0 0 in
     let z : ◌≡◌ {A = ℕ} 3 0 = cc in
     omega arith
 
 abbrev of_bytes : Library
-of_bytes = library (why_values 1) (put_values 1) column_of compare_rows null_run (λ l c. number.Is 3)
+of_bytes = library (why_values 1) (put_values 1) column_of compare_rows null_run (λ l c. Ok 3)
 
 pub not-bytes : Meets of_bytes → ⊥
 unfolding computed
 not-bytes m =
-    let e : number.Is 3 ≡ number.Is 0 = m.bytes bench_lent (column_of (fresh Doubled)) in
+    let e : ◌≡◌ {A = Result ℕ Refusal} (Ok 3) (Ok 0) = m.bytes bench_lent (column_of (fresh Doubled)) in
     let z : ◌≡◌ {A = ℕ} 3 0 = cc in
     omega arith

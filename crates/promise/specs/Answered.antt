@@ -1,7 +1,7 @@
 -- The third promise over the calls' own contracts: any answers and any buffers at exit that meet what `start`, the value and null calls, `finish` and `compact`
 -- ensure. Nothing here names what a call does, but by its contract. Assumes nothing.
+use Rattle.bounds.specs.Refusals.{accepted}
 use Rattle.std.specs.Prelude.{◌≡◌, List, map, ℕ}
-use Rattle.bounds.specs.declared.Why.TheVariants.{Accepted}
 use Rattle.column.specs.declared.Kind.{Kind}
 use Rattle.column.specs.declared.Column.{Column}
 use Rattle.column.specs.Lent.{Lent, lent}
@@ -42,7 +42,7 @@ column_in h = record { views = h.views; bytes = h.bytes; starts = h.starts; lens
 pub record StartMet (t : Settings) (ps : List ℕ) (r : Answer) (ps' : List ℕ) (h : Slices) : Type 0 where
   pub answers : r ≡ answer (why_start t) (start_state t)
   pub cleared : ps' ≡ start_places t ps
-  pub accepted : r.why ≡ Accepted
+  pub accepted : r.why ≡ accepted
   pub state : h.state ≡ r.state
   pub places : h.places ≡ ps'
 
@@ -54,12 +54,12 @@ pub record FinishMet (h : Slices) (r : Finished) (h' : Slices) : Type 0 where
 -- an accepted compaction into buffers o, which it leaves as o'
 pub record CompactMet (most : ℕ) (b : Buffers) (c : Column) (o : Buffers) (r : compaction.Outcome) (o' : Buffers) : Type 0 where
   pub wrote : Wrote most (lent_as b) c o.views o.bytes o.starts o.lens o.nulls r o'.views o'.bytes o'.starts o'.lens o'.nulls
-  pub accepted : r.why ≡ Accepted
+  pub accepted : r.why ≡ accepted
 
 -- an accepted conversion of an offset column
 pub record ConvertMet (s : Source) (k : Kind) (o : Buffers) (r : offsets.Outcome) (o' : Buffers) : Type 0 where
   pub converted : Converted 4 s k o.views o.bytes o.starts o.lens o.nulls r o'.views o'.bytes o'.starts o'.lens o'.nulls
-  pub accepted : r.why ≡ Accepted
+  pub accepted : r.why ≡ accepted
 
 -- a column that functions answered for a list of values and nulls: start, value and null calls, finish; and compactions, any number of times
 pub data Answered (xs : List Item) : Buffers → Column → Type 0 where
@@ -80,7 +80,7 @@ pub record KeptByContracts (xs : List Item) : Type 0 where
   pub bounds : (most : ℕ) (o : Buffers) (r : compaction.Outcome) (o' : Buffers) {b : Buffers} {c : Column} → Answered xs b c
       → CompactMet most b c o r o' → Bounded most (lent_as o') r.column
   -- and every such column passes the check
-  pub checks : {b : Buffers} {c : Column} → Answered xs b c → why_invalid (lent_as b) c ≡ Accepted
+  pub checks : {b : Buffers} {c : Column} → Answered xs b c → why_invalid (lent_as b) c ≡ accepted
 
 -- what compaction answers continues what was made and filed by any calls, and an offset column is filed
 pub record Continued : Type 0 where

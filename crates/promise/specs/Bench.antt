@@ -1,11 +1,11 @@
 -- The ten worked examples, as one statement over the definitions of the calls. Each builder and each compaction has small buffers of zeros of its own.
 -- Assumes nothing.
-use Rattle.std.specs.Prelude.{◌≡◌, Bool, true, false, ◌&&◌, List, [], ◌∷◌, map, ℕ, replicate}
+use Rattle.std.specs.Prelude.{◌≡◌, Bool, true, false, ◌&&◌, List, [], ◌∷◌, map, ℕ, replicate, Ok}
 use Rattle.basis.specs.Pick.{pick}
-use Rattle.bounds.specs.Refusals.{if_accepted, is_accepted}
+use Rattle.bounds.specs.Refusals.{if_accepted, is_accepted, accepted}
 use Rattle.utf8.specs.Table.{well_formed}
 use Rattle.views.specs.View.{block_of, make_view}
-use Rattle.order.specs.declared.Order.TheVariants.{Less}
+use Rattle.std.proofs.Common.{Less}
 use Rattle.column.specs.declared.Kind.TheVariants.{Binary}
 use Rattle.column.specs.declared.Column.{Column}
 use Rattle.column.specs.Lent.{Lent, buffers, block, block_at}
@@ -13,7 +13,6 @@ use Rattle.column.specs.Meaning.{row_view}
 use Rattle.column.specs.Laid.{rows_of}
 use Rattle.reading.specs.Reading.{prefix_at, suffix_at}
 use Rattle.comparison.specs.Compare.{compare_rows}
-use Rattle.comparison.specs.declared.Compared.TheVariants as compared
 use Rattle.builder.specs.declared.Settings.{Settings}
 use Rattle.builder.specs.declared.Sizes.{Sizes}
 use Rattle.builder.specs.declared.Sizes.TheVariants.{Doubled, Same}
@@ -97,7 +96,7 @@ abbrev pub alone : List ℕ → Finished
 alone x = bench_built Doubled (x ∷ [])
 
 abbrev pub below : List ℕ → List ℕ → Type 0
-below x y = compare_rows (alone x).lent (alone x).column 0 (alone y).lent (alone y).column 0 ≡ compared.Is Less
+below x y = compare_rows (alone x).lent (alone x).column 0 (alone y).lent (alone y).column 0 ≡ Ok Less
 
 pub record Bench : Type 0 where
   -- 1: the empty value

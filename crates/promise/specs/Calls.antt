@@ -1,7 +1,6 @@
 -- The calls of a builder, a run of calls none of which was refused, and what was put in each row. Assumes nothing.
 use Rattle.std.specs.Prelude.{◌≡◌, Bool, true, false, List, [], ◌∷◌, ◌++◌, ℕ, replicate}
-use Rattle.bounds.specs.declared.Why.{Why}
-use Rattle.bounds.specs.declared.Why.TheVariants.{Accepted}
+use Rattle.bounds.specs.Refusals.{Why, accepted}
 use Rattle.column.specs.declared.Column.{Column}
 use Rattle.column.specs.Lent.{Lent}
 use Rattle.column.specs.Meaning.{shown_at, row_valid}
@@ -43,7 +42,7 @@ put finish b = finished b
 -- each call takes the state and buffers as the call before left them, and none is refused
 pub data Ran : List Call → Builder → Builder → Type 0 where
   none : {b : Builder} → Ran [] b b
-  more : {c : Call} {cs : List Call} {b e : Builder} → why c b ≡ Accepted → Ran cs (put c b) e → Ran (c ∷ cs) b e
+  more : {c : Call} {cs : List Call} {b e : Builder} → why c b ≡ accepted → Ran cs (put c b) e → Ran (c ∷ cs) b e
 
 -- what is put in a row: its bytes, and its bit, which a null has not
 pub record Cell : Type 0 where

@@ -1,6 +1,6 @@
 -- A run of calls as functions promise them: each by its own contract `Does`, on the state and the slices that the one before left. Assumes nothing.
+use Rattle.bounds.specs.Refusals.{accepted}
 use Rattle.std.specs.Prelude.{◌≡◌, List, [], ◌∷◌, ℕ}
-use Rattle.bounds.specs.declared.Why.TheVariants.{Accepted}
 use Rattle.builder.specs.declared.State.{State}
 use Rattle.builder.specs.declared.Answer.{Answer}
 use Rattle.builder.specs.State.{Builder, held}
@@ -25,7 +25,7 @@ held_in h = held h.state h.views h.bytes h.starts h.lens h.nulls h.places
 pub record CallMet (c : Call) (h : Slices) (r : Answer) (h' : Slices) : Type 0 where
   pub does : Does (why c) (put c) h.state h.views h.bytes h.starts h.lens h.nulls h.places
       r h'.views h'.bytes h'.starts h'.lens h'.nulls h'.places
-  pub accepted : r.why ≡ Accepted
+  pub accepted : r.why ≡ accepted
   pub state : h'.state ≡ r.state
 
 pub data Coded : List Call → Slices → Slices → Type 0 where

@@ -1,16 +1,13 @@
 -- A library by what some of its calls do, and what it has to meet: enough of the promises to shut out libraries that do nothing useful. Assumes nothing.
-use Rattle.std.specs.Prelude.{◌≡◌, Bool, true, ◌&&◌, List, [], ◌∷◌, ℕ, ◌<◌, length, get_or}
-use Rattle.order.specs.Order.{cmp}
-use Rattle.bounds.specs.Refusals.{is_accepted}
-use Rattle.bounds.specs.declared.Why.{Why}
-use Rattle.bounds.specs.declared.Why.TheVariants.{Accepted}
+use Rattle.bounds.specs.declared.Refusal.{Refusal}
+use Rattle.comparison.specs.declared.Side.{Side}
+use Rattle.std.specs.Prelude.{◌≡◌, Bool, true, ◌&&◌, List, [], ◌∷◌, ℕ, ◌<◌, length, get_or, Ok, Result}
+use Rattle.order.specs.Order.{cmp, Order}
+use Rattle.bounds.specs.Refusals.{is_accepted, accepted, Why}
 use Rattle.column.specs.declared.Column.{Column}
 use Rattle.column.specs.Lent.{Lent}
 use Rattle.reading.specs.Reading.{value_at, null_run, total_bytes_len}
-use Rattle.reading.specs.declared.Number.{Number}
 use Rattle.comparison.specs.Compare.{order_of, compare_rows}
-use Rattle.comparison.specs.declared.Compared.{Compared}
-use Rattle.comparison.specs.declared.Compared.TheVariants as compared
 use Rattle.builder.specs.declared.Settings.{Settings}
 use Rattle.builder.specs.State.{Builder}
 use Rattle.builder.specs.Start.{why_start, start}
@@ -24,12 +21,12 @@ pub record Library : Type 0 where
   pub why : Builder → List ℕ → Why
   pub append : List ℕ → Builder → Builder
   pub finish : Builder → Column
-  pub compare : Lent → Column → ℕ → Lent → Column → ℕ → Compared
-  pub nulls : Lent → Column → ℕ → ℕ → Number
-  pub bytes : Lent → Column → Number
+  pub compare : Lent → Column → ℕ → Lent → Column → ℕ → Result Order Side
+  pub nulls : Lent → Column → ℕ → ℕ → Result ℕ Refusal
+  pub bytes : Lent → Column → Result ℕ Refusal
 
-abbrev pub library : (Builder → List ℕ → Why) → (List ℕ → Builder → Builder) → (Builder → Column) → (Lent → Column → ℕ → Lent → Column → ℕ → Compared)
-    → (Lent → Column → ℕ → ℕ → Number) → (Lent → Column → Number) → Library
+abbrev pub library : (Builder → List ℕ → Why) → (List ℕ → Builder → Builder) → (Builder → Column) → (Lent → Column → ℕ → Lent → Column → ℕ → Result Order Side)
+    → (Lent → Column → ℕ → ℕ → Result ℕ Refusal) → (Lent → Column → Result ℕ Refusal) → Library
 library why append finish compare nulls bytes = record { why = why; append = append; finish = finish; compare = compare; nulls = nulls; bytes = bytes }
 
 -- the one that the definitions say
@@ -54,9 +51,9 @@ library_column L xs t l places = L.finish (append_all L xs (start t l places))
 
 -- nothing was refused
 pub record Passes (L : Library) (xs : List (List ℕ)) (t : Settings) (l : Lent) (places : List ℕ) : Type 0 where
-  pub start : why_start t ≡ Accepted
+  pub start : why_start t ≡ accepted
   pub values : accepts L xs (Start.start t l places) ≡ true
-  pub finish : why_finish (append_all L xs (Start.start t l places)) ≡ Accepted
+  pub finish : why_finish (append_all L xs (Start.start t l places)) ≡ accepted
 
 pub record Meets (L : Library) : Type 0 where
   -- the first promise: refused exactly when the paper says
@@ -70,4 +67,4 @@ pub record Meets (L : Library) : Type 0 where
       → value_at (lent_by L xs t l places) (library_column L xs t l places) i ≡ get_or xs i []
   pub orders : {t : Settings} {l : Lent} {places : List ℕ} (xs : List (List ℕ)) (i j : ℕ) → Passes L xs t l places → i < length xs → j < length xs
       → L.compare (lent_by L xs t l places) (library_column L xs t l places) i (lent_by L xs t l places) (library_column L xs t l places) j
-      ≡ compared.Is (order_of (cmp (get_or xs i []) (get_or xs j [])))
+      ≡ Ok (order_of (cmp (get_or xs i []) (get_or xs j [])))

@@ -1,8 +1,8 @@
 -- Which row's view a long value takes, said by the calls alone: no hash, no merge table. Assumes nothing.
+use Rattle.bounds.specs.Refusals.{accepted}
 use Rattle.std.specs.Prelude.{◌≡◌, true, List, [], ◌∷◌, ◌++◌, ℕ, zero, suc, ◌<◌, length, get_or}
 use Rattle.std.proofs.Math.Option.{Option, none, some}
 use Rattle.basis.specs.Pick.{pick}
-use Rattle.bounds.specs.declared.Why.TheVariants.{Accepted}
 use Rattle.views.specs.View.{short_most, is_short, view_at}
 use Rattle.merging.specs.Earliest.{earliest}
 use Rattle.column.specs.Lent.{Lent}
@@ -63,6 +63,6 @@ Takes none n x b = (places : List ℕ) × (put_values (suc n) x b ≡ again n b.
 
 -- after any calls from a start, a finish among them too, under any settings and over buffers of any content
 pub record Merged : Type 0 where
-  pub takes : (t : Settings) (l : Lent) (places : List ℕ) (cs : List Call) (b : Builder) → why_start t ≡ Accepted → Ran cs (start t l places) b
-      → (n : ℕ) (x : List ℕ) → short_most < length x → why_values (suc n) b x ≡ Accepted
+  pub takes : (t : Settings) (l : Lent) (places : List ℕ) (cs : List Call) (b : Builder) → why_start t ≡ accepted → Ran cs (start t l places) b
+      → (n : ℕ) (x : List ℕ) → short_most < length x → why_values (suc n) b x ≡ accepted
       → Takes (target t.merging (recall_all t.merging cs (start t l places) (memo [] [])) x) n x b

@@ -1,12 +1,11 @@
 -- One history of every call, run over the definitions: what is said of any calls is said of some. Assumes nothing.
-use Rattle.std.specs.Prelude.{◌≡◌, Bool, true, ◌&&◌, List, [], ◌∷◌, ℕ, replicate}
+use Rattle.std.specs.Prelude.{◌≡◌, Bool, true, false, ◌&&◌, List, [], ◌∷◌, ℕ, replicate, Ok}
 use Rattle.std.proofs.Math.Option.{none, some}
 use Rattle.bounds.specs.Refusals.{is_accepted}
 use Rattle.views.specs.View.{block_of, view_at}
 use Rattle.column.specs.declared.Kind.TheVariants.{Binary}
 use Rattle.column.specs.Laid.{rows_of}
 use Rattle.reading.specs.Reading.{value_at, bit_of}
-use Rattle.reading.specs.declared.Bit.TheVariants.{Valid, Null}
 use Rattle.builder.specs.declared.Settings.{Settings}
 use Rattle.builder.specs.declared.Sizes.TheVariants.{Doubled}
 use Rattle.builder.specs.declared.Merging.TheVariants.{On}
@@ -57,5 +56,5 @@ pub record Mixed : Type 0 where
   pub targets : target On (recall_all On viewed_first mixed_begun (memo [] [])) mar ≡ some 1
   pub again : accepts_calls mixed_anew mixed_begun ≡ true
   pub after : rows_after mixed_anew mixed_begun [] ≡ cell mar true ∷ no_value ∷ []
-  pub bits : rows_of (bit_of (finished (left_by_calls mixed_anew mixed_begun)).lent (column_of (left_by_calls mixed_anew mixed_begun))) 2 ≡ Valid ∷ Null ∷ []
+  pub bits : rows_of (bit_of (finished (left_by_calls mixed_anew mixed_begun)).lent (column_of (left_by_calls mixed_anew mixed_begun))) 2 ≡ Ok true ∷ Ok false ∷ []
   pub forgets : target On (recall_all On (adds_values 1 mar ∷ finish ∷ []) mixed_begun (memo [] [])) mar ≡ none

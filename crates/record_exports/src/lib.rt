@@ -1,7 +1,9 @@
 // Instruments of tests, no part of the library: the calls over a table of records, by numbers as exports and builder_exports have them, for the programs of
 // the gate and for drivers in Rust. A table of more records than through_records holds is answered with TOO_MANY, and nothing is done.
+// Parameters stand one by one, since record_exports_c has each call with the same ones for C.
 #![tactic(auto)]
 
+use column::Buffers;
 use numbers::{Counted, Told};
 
 // More than any refusal's number.
@@ -10,20 +12,9 @@ pub const TOO_MANY: u64 = 99;
 // The answer of a step of the walk whose value is another than the one asked for.
 pub const OTHER: u64 = 98;
 
-fn number_at(from: &[usize], k: usize) -> usize {
-    if from.len() <= k {
-        return 0;
-    }
-    from[k]
-}
-
-// The numbers written to the front of another slice, as far as that goes, and zeros after them.
-fn keep(from: &[usize], to: &mut [usize]) {
-    let mut k = 0;
-    while k < to.len() {
-        to[k] = number_at(from, k);
-        k += 1;
-    }
+// Whether a table of two slices has more records than there can be: either slice is longer than that.
+fn is_too_long(starts: &[usize], lens: &[usize]) -> bool {
+    through_records::MOST < starts.len().max(lens.len())
 }
 
 fn too_many() -> Told {
@@ -31,17 +22,6 @@ fn too_many() -> Told {
         number: TOO_MANY,
         row: 0,
     }
-}
-
-// How many records a table of two slices has; more than there can be where either slice is longer than that.
-pub fn records(starts: &[usize], lens: &[usize]) -> usize {
-    if through_records::MOST < starts.len() {
-        return starts.len();
-    }
-    if through_records::MOST < lens.len() {
-        return lens.len();
-    }
-    basis::least(starts.len(), lens.len())
 }
 
 // A value is added.
@@ -55,18 +35,11 @@ pub fn records_append_value(
     places: &mut [u32],
     x: &[u8],
 ) -> u64 {
-    let s = builder_exports::state_of(state);
-    let n = records(&starts[..], &lens[..]);
-    let mut a = [0usize; 16];
-    let mut b = [0usize; 16];
-    keep(&starts[..], &mut a);
-    keep(&lens[..], &mut b);
-    if through_records::MOST < n {
+    if is_too_long(starts, lens) {
         return TOO_MANY;
     }
-    let r = through_values::append_value(
-        &a, &b, n, s, views, bytes, nulls, places, x, starts, lens,
-    );
+    let s = builder_exports::state_of(state);
+    let r = through_values::append_value(s, views, bytes, starts, lens, nulls, places, x);
     builder_exports::tell(r, state)
 }
 
@@ -82,18 +55,11 @@ pub fn records_append_values(
     x: &[u8],
     times: usize,
 ) -> u64 {
-    let s = builder_exports::state_of(state);
-    let n = records(&starts[..], &lens[..]);
-    let mut a = [0usize; 16];
-    let mut b = [0usize; 16];
-    keep(&starts[..], &mut a);
-    keep(&lens[..], &mut b);
-    if through_records::MOST < n {
+    if is_too_long(starts, lens) {
         return TOO_MANY;
     }
-    let r = through_values::append_values(
-        &a, &b, n, s, views, bytes, nulls, places, x, times, starts, lens,
-    );
+    let s = builder_exports::state_of(state);
+    let r = through_values::append_values(s, views, bytes, starts, lens, nulls, places, x, times);
     builder_exports::tell(r, state)
 }
 
@@ -107,12 +73,11 @@ pub fn records_append_null(
     nulls: &mut [u8],
     places: &[u32],
 ) -> u64 {
-    let s = builder_exports::state_of(state);
-    let n = records(starts, lens);
-    if through_records::MOST < n {
+    if is_too_long(starts, lens) {
         return TOO_MANY;
     }
-    let r = through_records::append_null(starts, lens, n, s, views, bytes, nulls, places);
+    let s = builder_exports::state_of(state);
+    let r = through_records::append_null(s, views, bytes, starts, lens, nulls, places);
     builder_exports::tell(r, state)
 }
 
@@ -127,26 +92,17 @@ pub fn records_append_block(
     places: &[u32],
     x: &[u8],
 ) -> Counted {
-    let s = builder_exports::state_of(state);
-    let n = records(&starts[..], &lens[..]);
-    let mut a = [0usize; 16];
-    let mut b = [0usize; 16];
-    keep(&starts[..], &mut a);
-    keep(&lens[..], &mut b);
-    if through_records::MOST < n {
+    if is_too_long(starts, lens) {
         return Counted {
             refused: TOO_MANY,
             number: 0,
         };
     }
-    let r = through_records::append_block(
-        &a, &b, n, s, views, bytes, nulls, places, x, starts, lens,
-    );
-    let number = r.block;
-    let answer = r.answer;
+    let s = builder_exports::state_of(state);
+    let r = through_records::append_block(s, views, bytes, starts, lens, nulls, places, x);
     Counted {
-        refused: builder_exports::tell(answer, state),
-        number,
+        refused: builder_exports::tell(r.answer, state),
+        number: r.block,
     }
 }
 
@@ -163,13 +119,12 @@ pub fn records_append_view(
     offset: u32,
     size: u32,
 ) -> u64 {
-    let s = builder_exports::state_of(state);
-    let n = records(starts, lens);
-    if through_records::MOST < n {
+    if is_too_long(starts, lens) {
         return TOO_MANY;
     }
+    let s = builder_exports::state_of(state);
     let r = through_columns::append_view(
-        starts, lens, n, s, views, bytes, nulls, places, block, offset, size,
+        s, views, bytes, starts, lens, nulls, places, block, offset, size,
     );
     builder_exports::tell(r, state)
 }
@@ -190,41 +145,29 @@ pub fn records_append_column<'a>(
     srcnulls: &'a [u8],
     column: &[usize; 5],
 ) -> Told {
+    if is_too_long(starts, lens) || is_too_long(srcstarts, srclens) {
+        return too_many();
+    }
     let s = builder_exports::state_of(state);
-    let n = records(&starts[..], &lens[..]);
-    let m = records(srcstarts, srclens);
-    let mut a = [0usize; 16];
-    let mut b = [0usize; 16];
-    keep(&starts[..], &mut a);
-    keep(&lens[..], &mut b);
-    if through_records::MOST < n {
-        return too_many();
-    }
-    if through_records::MOST < m {
-        return too_many();
-    }
     let r = through_columns::append_column(
-        &a,
-        &b,
-        n,
         s,
         views,
         bytes,
-        nulls,
-        places,
-        srcstarts,
-        srclens,
-        m,
-        srcviews,
-        srcbytes,
-        srcnulls,
-        numbers::column_of(column),
         starts,
         lens,
+        nulls,
+        places,
+        Buffers {
+            views: srcviews,
+            bytes: srcbytes,
+            starts: srcstarts,
+            lens: srclens,
+            nulls: srcnulls,
+        },
+        numbers::column_of(column),
     );
-    let w = r.why;
     builder_exports::tell(r, state);
-    numbers::told_why(w)
+    numbers::told_why(r.why)
 }
 
 // The column that was built.
@@ -238,21 +181,13 @@ pub fn records_finish(
     places: &mut [u32],
     column: &mut [usize; 5],
 ) -> u64 {
-    let s = builder_exports::state_of(state);
-    let n = records(&starts[..], &lens[..]);
-    let mut a = [0usize; 16];
-    let mut b = [0usize; 16];
-    keep(&starts[..], &mut a);
-    keep(&lens[..], &mut b);
-    if through_records::MOST < n {
+    if is_too_long(starts, lens) {
         return TOO_MANY;
     }
-    let r = through_records::finish(&a, &b, n, s, views, bytes, nulls, places, starts, lens);
-    let answer = r.answer;
-    let made = r.column;
-    let why = answer.why;
-    numbers::hand(why, made, column);
-    builder_exports::tell(answer, state)
+    let s = builder_exports::state_of(state);
+    let r = through_records::finish(s, views, bytes, starts, lens, nulls, places);
+    numbers::hand(r.answer.why, r.column, column);
+    builder_exports::tell(r.answer, state)
 }
 
 // The column so far.
@@ -266,21 +201,13 @@ pub fn records_finish_by_copy(
     places: &[u32],
     column: &mut [usize; 5],
 ) -> u64 {
-    let s = builder_exports::state_of(state);
-    let n = records(&starts[..], &lens[..]);
-    let mut a = [0usize; 16];
-    let mut b = [0usize; 16];
-    keep(&starts[..], &mut a);
-    keep(&lens[..], &mut b);
-    if through_records::MOST < n {
+    if is_too_long(starts, lens) {
         return TOO_MANY;
     }
-    let r = through_records::finish_copy(&a, &b, n, s, views, bytes, nulls, places, starts, lens);
-    let answer = r.answer;
-    let made = r.column;
-    let why = answer.why;
-    numbers::hand(why, made, column);
-    builder_exports::tell(answer, state)
+    let s = builder_exports::state_of(state);
+    let r = through_records::finish_copy(s, views, bytes, starts, lens, nulls, places);
+    numbers::hand(r.answer.why, r.column, column);
+    builder_exports::tell(r.answer, state)
 }
 
 // 0 where a row's value while it is built can be read, else the refusal's number.
@@ -294,13 +221,12 @@ pub fn records_why_get<'a>(
     places: &[u32],
     row: usize,
 ) -> u64 {
-    let s = builder_exports::state_of(state);
-    let n = records(starts, lens);
-    if through_records::MOST < n {
+    if is_too_long(starts, lens) {
         return TOO_MANY;
     }
-    let w = through_records::why_get(starts, lens, n, s, views, bytes, nulls, places, row);
-    bounds::why_number(w) as u64
+    let s = builder_exports::state_of(state);
+    let w = through_records::why_get(s, views, bytes, starts, lens, nulls, places, row);
+    u64::from(bounds::why_number(w))
 }
 
 // 1 where a row's value while it is built is `want`, else 0.
@@ -315,15 +241,13 @@ pub fn records_get_value_is<'a>(
     row: usize,
     want: &[u8],
 ) -> u64 {
-    let s = builder_exports::state_of(state);
-    let n = records(starts, lens);
-    if through_records::MOST < n {
+    if is_too_long(starts, lens) {
         return TOO_MANY;
     }
-    if through_records::get_value_is(starts, lens, n, s, views, bytes, nulls, places, row, want) {
-        return 1;
-    }
-    0
+    let s = builder_exports::state_of(state);
+    u64::from(through_records::get_value_is(
+        s, views, bytes, starts, lens, nulls, places, row, want,
+    ))
 }
 
 // 0 where a row's value can be read, else the refusal's number.
@@ -336,13 +260,18 @@ pub fn records_why_value<'a>(
     column: &[usize; 5],
     row: usize,
 ) -> u64 {
-    let n = records(starts, lens);
-    if through_records::MOST < n {
+    if is_too_long(starts, lens) {
         return TOO_MANY;
     }
-    let c = numbers::column_of(column);
-    let w = through_records::why_value(starts, lens, n, views, bytes, nulls, c, row);
-    bounds::why_number(w) as u64
+    let l = Buffers {
+        views,
+        bytes,
+        starts,
+        lens,
+        nulls,
+    };
+    let w = through_records::why_value(l, numbers::column_of(column), row);
+    u64::from(bounds::why_number(w))
 }
 
 // 1 where a row's value is `want`, else 0.
@@ -356,15 +285,17 @@ pub fn records_value_is<'a>(
     row: usize,
     want: &[u8],
 ) -> u64 {
-    let n = records(starts, lens);
-    if through_records::MOST < n {
+    if is_too_long(starts, lens) {
         return TOO_MANY;
     }
-    let c = numbers::column_of(column);
-    if through_records::value_is(starts, lens, n, views, bytes, nulls, c, row, want) {
-        return 1;
-    }
-    0
+    let l = Buffers {
+        views,
+        bytes,
+        starts,
+        lens,
+        nulls,
+    };
+    u64::from(through_records::value_is(l, numbers::column_of(column), row, want))
 }
 
 // The row walk set to a row, and a step of it whose value has to be `want`: the refusal's number or 0, and the place after it.
@@ -378,24 +309,26 @@ pub fn records_walk<'a>(
     row: usize,
     want: &[u8],
 ) -> Counted {
-    let n = records(starts, lens);
-    if through_records::MOST < n {
+    if is_too_long(starts, lens) {
         return Counted {
             refused: TOO_MANY,
             number: 0,
         };
     }
-    let c = numbers::column_of(column);
-    let g = through_walks::walk_at(starts, lens, n, views, bytes, nulls, c, row, want);
-    let why = g.why;
-    if !g.same {
-        return Counted {
-            refused: OTHER,
-            number: g.at,
-        };
-    }
+    let l = Buffers {
+        views,
+        bytes,
+        starts,
+        lens,
+        nulls,
+    };
+    let g = through_walks::walk_at(l, numbers::column_of(column), row, want);
     Counted {
-        refused: bounds::why_number(why) as u64,
+        refused: if g.same {
+            u64::from(bounds::why_number(g.why))
+        } else {
+            OTHER
+        },
         number: g.at,
     }
 }
@@ -409,12 +342,17 @@ pub fn records_check<'a>(
     nulls: &'a [u8],
     column: &[usize; 5],
 ) -> Told {
-    let n = records(starts, lens);
-    if through_records::MOST < n {
+    if is_too_long(starts, lens) {
         return too_many();
     }
-    let c = numbers::column_of(column);
-    numbers::told_why(through_records::check(starts, lens, n, views, bytes, nulls, c))
+    let l = Buffers {
+        views,
+        bytes,
+        starts,
+        lens,
+        nulls,
+    };
+    numbers::told_why(through_records::check(l, numbers::column_of(column)))
 }
 
 // Row i of one column against row j of another, by exports' numbers.
@@ -434,18 +372,30 @@ pub fn records_compare<'a>(
     column2: &[usize; 5],
     j: usize,
 ) -> u64 {
-    let n = records(starts, lens);
-    let m = records(starts2, lens2);
-    if through_records::MOST < n {
+    if is_too_long(starts, lens) || is_too_long(starts2, lens2) {
         return TOO_MANY;
     }
-    if through_records::MOST < m {
-        return TOO_MANY;
-    }
-    let c = numbers::column_of(column);
-    let d = numbers::column_of(column2);
+    let l = Buffers {
+        views,
+        bytes,
+        starts,
+        lens,
+        nulls,
+    };
+    let m = Buffers {
+        views: views2,
+        bytes: bytes2,
+        starts: starts2,
+        lens: lens2,
+        nulls: nulls2,
+    };
     exports::compared_number(through_records::compare(
-        starts, lens, n, views, bytes, nulls, c, i, starts2, lens2, m, views2, bytes2, nulls2, d, j,
+        l,
+        numbers::column_of(column),
+        i,
+        m,
+        numbers::column_of(column2),
+        j,
     ))
 }
 
@@ -465,38 +415,18 @@ pub fn records_compact<'a>(
     newnulls: &mut [u8],
     newcolumn: &mut [usize; 5],
 ) -> Told {
-    let n = records(&newstarts[..], &newlens[..]);
-    let m = records(starts, lens);
-    let mut a = [0usize; 16];
-    let mut b = [0usize; 16];
-    keep(&newstarts[..], &mut a);
-    keep(&newlens[..], &mut b);
-    if through_records::MOST < n {
+    if is_too_long(newstarts, newlens) || is_too_long(starts, lens) {
         return too_many();
     }
-    if through_records::MOST < m {
-        return too_many();
-    }
-    let r = through_columns::compact(
-        &a,
-        &b,
-        n,
-        starts,
-        lens,
-        m,
+    let l = Buffers {
         views,
         bytes,
+        starts,
+        lens,
         nulls,
-        numbers::column_of(column),
-        most,
-        newviews,
-        newbytes,
-        newnulls,
-        newstarts,
-        newlens,
-    );
-    let why = r.why;
-    let made = r.column;
-    numbers::hand(why, made, newcolumn);
-    numbers::told_why(why)
+    };
+    let c = numbers::column_of(column);
+    let r = through_columns::compact(l, c, most, newviews, newbytes, newstarts, newlens, newnulls);
+    numbers::hand(r.why, r.column, newcolumn);
+    numbers::told_why(r.why)
 }

@@ -1,4 +1,5 @@
-// Instruments of tests, no part of the library: the calls of `record_exports` for drivers, each under its own name.
+// Instruments of tests, no part of the library: the calls of `record_exports` for drivers, each under its own name. Parameters stand one by one: this is the C
+// interface.
 #![tactic(auto)]
 
 use numbers::{Counted, Told};

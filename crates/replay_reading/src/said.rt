@@ -1,123 +1,86 @@
-// What a call says, as the fixed list has it: the refusal's number with its row and side, a number, the length of a slice; and whether a part is the
-// one expected.
-use bounds::{Refusal, Why};
-use comparison::{Compared, Sameness};
-use order::Order;
-use reading::{Bit, Number, Sliced};
+// What a call says, in the list's words: the refusal's number with its row and side, a number, and the length of a slice or a part. The list has 0 where
+// a call says nothing, and so has this.
+use bounds::Refusal;
+use column::Column;
+use comparison::Side;
+use std::cmp::Ordering;
 
-#[derive(Clone, Copy)]
+#[derive(Clone, Copy, Default, PartialEq, Eq)]
 pub struct Said {
     pub refusal: usize,
     pub row: usize,
     pub side: usize,
     pub number: usize,
     pub size: usize,
-    pub part: bool,
 }
 
-pub fn plain(number: usize) -> Said {
-    Said {
-        refusal: 0,
-        row: 0,
-        side: 0,
-        number,
-        size: 0,
-        part: true,
+impl From<()> for Said {
+    fn from(_: ()) -> Said {
+        Said::default()
     }
 }
 
-// The row is named with 11 alone.
-fn refused(r: Refusal, side: usize) -> Said {
-    let refusal = bounds::number(r) as usize;
-    Said {
-        refusal,
-        row: bounds::row(r),
-        side,
-        number: 0,
-        size: 0,
-        part: true,
-    }
-}
-
-pub fn of_why(w: Why, number: usize) -> Said {
-    match w {
-        Why::Accepted => plain(number),
-        Why::Refused(r) => {
-            let s = refused(r, 0);
-            Said {
-                refusal: s.refusal,
-                row: s.row,
-                side: 0,
-                number,
-                size: 0,
-                part: true,
-            }
+impl From<usize> for Said {
+    fn from(number: usize) -> Said {
+        Said {
+            number,
+            ..Said::default()
         }
     }
 }
 
-pub fn of_part(w: Why, number: usize, size: usize, part: bool) -> Said {
-    let s = of_why(w, number);
-    Said {
-        refusal: s.refusal,
-        row: s.row,
-        side: 0,
-        number,
-        size,
-        part,
+impl From<bool> for Said {
+    fn from(b: bool) -> Said {
+        Said::from(usize::from(b))
     }
 }
 
-pub fn of_number(n: Number) -> Said {
-    match n {
-        Number::Is(k) => plain(k),
-        Number::Refused(r) => refused(r, 0),
+impl From<Ordering> for Said {
+    fn from(o: Ordering) -> Said {
+        Said::from(lists::order_number(o))
     }
 }
 
-pub fn of_bit(b: Bit) -> Said {
-    match b {
-        Bit::Valid => plain(1),
-        Bit::Null => plain(0),
-        Bit::Refused(r) => refused(r, 0),
-    }
-}
-
-pub fn of_slice(s: Sliced) -> Said {
-    match s {
-        Sliced::Is(c) => Said {
-            refusal: 0,
-            row: 0,
-            side: 0,
+impl From<Column> for Said {
+    fn from(c: Column) -> Said {
+        Said {
             number: c.first,
             size: c.rows,
-            part: true,
-        },
-        Sliced::Refused(r) => refused(r, 0),
+            ..Said::default()
+        }
     }
 }
 
-fn of_order(o: Order) -> usize {
-    match o {
-        Order::Less => 0,
-        Order::Equal => 1,
-        Order::Greater => 2,
+// The row is named with 11 alone.
+impl From<Refusal> for Said {
+    fn from(r: Refusal) -> Said {
+        Said {
+            refusal: usize::from(r.number()),
+            row: r.row(),
+            ..Said::default()
+        }
     }
 }
 
-pub fn of_compared(c: Compared) -> Said {
-    match c {
-        Compared::Is(o) => plain(of_order(o)),
-        Compared::Left(r) => refused(r, 1),
-        Compared::Right(r) => refused(r, 2),
+impl From<Side> for Said {
+    fn from(s: Side) -> Said {
+        match s {
+            Side::Left(r) => Said {
+                side: 1,
+                ..Said::from(r)
+            },
+            Side::Right(r) => Said {
+                side: 2,
+                ..Said::from(r)
+            },
+        }
     }
 }
 
-pub fn of_same(s: Sameness) -> Said {
-    match s {
-        Sameness::Same => plain(1),
-        Sameness::Different => plain(0),
-        Sameness::Left(r) => refused(r, 1),
-        Sameness::Right(r) => refused(r, 2),
+// What a call says, accepted or refused.
+pub fn told<T: Into<Said>, E: Into<Said>>(answer: Result<T, E>) -> Said {
+    match answer {
+        Ok(x) => x.into(),
+        Err(e) => e.into(),
     }
 }

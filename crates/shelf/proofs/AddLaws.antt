@@ -1,4 +1,5 @@
 -- The calls keep the table's length, so that the two number slices say what the table is. Assumes nothing.
+use Rattle.std.specs.Prelude.{Ok, Err}
 use mathlib.Core.Path.{◌≡◌, refl, ap, ◌∙◌}
 use mathlib.Core.Bool.{Bool, true, false}
 use mathlib.Core.List.{List, [], ◌∷◌}
@@ -6,9 +7,7 @@ use Prim.Native.Nat.{ℕ}
 use native.Mathlib.Omega.{arith}
 use lib.ListN.{length, set, length-set}
 use Rattle.basis.specs.Pick.{pick}
-use Rattle.bounds.specs.Refusals.{if_accepted}
-use Rattle.bounds.specs.declared.Why.{Why}
-use Rattle.bounds.specs.declared.Why.TheVariants.{Accepted, Refused}
+use Rattle.bounds.specs.Refusals.{if_accepted, Why}
 use Rattle.views.specs.View.{is_short, short_view, zero_view, view_at}
 use Rattle.merging.specs.Table.{is_row, row_of}
 use Rattle.column.specs.declared.Block.{Block}
@@ -76,8 +75,8 @@ left-many : (why : Builder → Why) (put : Builder → Builder) (b : Builder) �
 left-many why put b h = go (why b)
   where
     go : (w : Why) → many (if_accepted w (put b) b) ≡ many b
-    go Accepted = h
-    go (Refused r) = refl
+    go (Ok _) = h
+    go (Err r) = refl
 
 -- ---- two number slices that were written from a table say what it is
 

@@ -1,3 +1,4 @@
 pub mod AddLaws
 pub mod ScanLaws
 pub mod SaysLaws
+pub mod BadLaws

@@ -1,22 +1,13 @@
--- The first place of a byte, as a walk over a text's bytes finds it. Assumes nothing.
-use Rattle.std.specs.Prelude.{◌≡◌, ◌≢◌, refl, List, [], ◌∷◌, ℕ, ◌+◌, ◌-◌, ◌≤◌, ◌<◌, Option, Some, None, MatchOption, length, take, drop}
-use Rattle.std.proofs.Common.{sym, ap, ◌∙◌, arith, add-one, length-drop, eq-eqb, ne_eqb}
-use Rattle.std.proofs.Math.Seq.{take-length, take_all}
+-- The first place of a byte, as a walk over a text's bytes finds it, and the line up to it. Assumes nothing.
+use Rattle.std.specs.Prelude.{◌≡◌, ◌≢◌, refl, Bool, true, false, List, [], ◌∷◌, ℕ, ◌+◌, ◌-◌, ◌≤◌, ◌<◌, Option, Some, None, MatchOption, length, take, drop}
+use Rattle.std.proofs.Common.{sym, ap, ◌∙◌, arith, add-one, length-drop, drop_of_length-le, eq-eqb, ne_eqb}
+use Rattle.std.proofs.Math.Seq.{take_all}
 use Rattle.std.proofs.lemmas.Iterator.{index_from_first}
-use Rattle.std.specs.List.{AllWithin, HoldsAt}
+use Rattle.std.specs.List.{AllWithin, HoldsAt, PartBy}
 use Rattle.std.specs.Option.{unwrap_or}
-use Rattle.shelf.specs.Scan.{index_of, index_after, slice}
-
--- the bytes of a text from `at` on
-abbrev pub rest : List ℕ → ℕ → List ℕ
-rest s at = take (length s - at) (drop at s)
-
-rest-slice : (s : List ℕ) (at : ℕ) → at ≤ length s → rest s at ≡ slice at (length s) s
-unfolding slice
-rest-slice s at h = take_all (length s - at) (drop at s) (simp length-drop (omega arith)) ∙ sym (ap (λ (l : List ℕ). drop at l) (take-length s))
-
-rest-length : (s : List ℕ) (at : ℕ) → at ≤ length s → length (rest s at) ≡ length s - at
-rest-length s at h = ap length (take_all (length s - at) (drop at s) (simp length-drop (omega arith))) ∙ length-drop at s
+use Rattle.shelf.specs.Scan.{index_of, index_after}
+use Rattle.shelf.specs.Lines.{lines}
+use Rattle.shelf.specs.LineLaws.{first-line}
 
 hit : (b x : ℕ) (xs : List ℕ) → x ≡ b → index_of b (x ∷ xs) ≡ 0
 unfolding index_of
@@ -37,19 +28,16 @@ First b xs r = MatchOption r (AllWithin (λ (x : ℕ). x ≢ b) xs 0 (length xs)
 place : (b : ℕ) (xs : List ℕ) (r : Option ℕ) → First b xs r → index_of b xs ≡ unwrap_or r (length xs)
 place b xs r m = index_from_first (index_of b) (λ x. x ≡ b) (λ x. x ≢ b) (none b) (hit b) (miss b) xs r m
 
-module _ (s : List ℕ) (at : ℕ) (h : at ≤ length s) where
-  pub ends_found : (k : ℕ) (r : Option ℕ) → r ≡ Some k → First 10 (rest s at) r
-      → (at + k ≡ at + index_of 10 (slice at (length s) s)) × (at ≤ at + k) × (at + k ≤ length s)
-  ends_found k r e m =
-      let f : First 10 (rest s at) (Some k) = rw e at m in
-      let g = f.0 in
-      let i = place 10 (rest s at) (Some k) f in
-      (ap (λ (n : ℕ). at + n) (sym i ∙ ap (index_of 10) (rest-slice s at h)), omega arith, omega (arith, g, rest-length s at h))
+-- what `get` answers of the part from n on, or an empty part where there is none
+pub part_from : {B : Type 0} (now : B → List ℕ) (s : List ℕ) (n : ℕ) (r : Option B) (d : B) → now d ≡ []
+    → PartBy now s n (length s) r → now (unwrap_or r d) ≡ drop n s
+part_from now s n None d z m = let h : length s ≤ n = omega arith in z ∙ sym (drop_of_length-le s h)
+part_from now s n (Some x) d z m = m.0.2 ∙ take_all (length s - n) (drop n s) (simp length-drop (omega arith))
 
-  pub ends-none : (r : Option ℕ) → r ≡ None → First 10 (rest s at) r
-      → (length s ≡ at + index_of 10 (slice at (length s) s)) × (at ≤ length s) × (length s ≤ length s)
-  ends-none r e m =
-      let f : First 10 (rest s at) None = rw e at m in
-      let i = place 10 (rest s at) None f ∙ rest-length s at h in
-      let j = ap (index_of 10) (rest-slice s at h) in
-      (omega (arith, i, j), h, omega arith)
+-- the first line, and the lines after its line end
+pub line-off : (s : List ℕ) (e : ℕ) (r : Option ℕ) (t : List ℕ) → 0 < length s → First 10 s r → e ≡ unwrap_or r (length s) → t ≡ drop (e + 1) s
+    → lines s ≡ take e s ∷ lines t
+line-off s e r t h m p q =
+    let i : index_of 10 s ≡ e = place 10 s r m ∙ sym p in
+    let l = rw (← add-one (index_of 10 s), i) at (first-line s h) in
+    l ∙ ap (λ (z : List ℕ). take e s ∷ lines z) (sym q)

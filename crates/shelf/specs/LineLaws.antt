@@ -13,8 +13,9 @@ use Rattle.shelf.specs.declared.Line.TheVariants.{Code, Null, Bad}
 use Rattle.order.specs.Order.{same}
 use Rattle.order.proofs.OrderLaws.{same-no}
 
-first-line : (l : List ℕ) → 0 < length l → lines l ≡ take (index_of 10 l) l ∷ lines (drop (suc (index_of 10 l)) l)
-unfolding lines on_first index_of index_after
+-- the first line, and the lines after its line end
+pub first-line : (l : List ℕ) → 0 < length l → lines l ≡ take (index_of 10 l) l ∷ lines (drop (suc (index_of 10 l)) l)
+unfolding lines on_first index_of
 first-line [] h = absurd (omega arith)
 first-line (c ∷ []) h = go (eqb c 10)
   where

@@ -1,8 +1,8 @@
 // The program's input: its lines, the first bad one, and the column that they make.
 #![tactic(auto)]
 
-ghost use Rattle.std.specs.Prelude.{◌≡◌, ◌+◌, ◌-◌, ◌≤◌, ◌<◌, min, length, drop};
-ghost use Rattle.shelf.specs.Scan.{index_of, slice};
+ghost use Rattle.std.specs.Prelude.{◌≡◌, ◌+◌, ◌≤◌, ◌<◌};
+ghost use Rattle.std.specs.Iterator.{YieldsFirstRef, item_count as items_left};
 ghost use Rattle.column.specs.Lent.{lent};
 ghost use Rattle.builder.specs.State.{held};
 ghost use Rattle.shelf.specs.Lines.{lines, first_bad_line};
@@ -24,65 +24,53 @@ pub enum Line {
 fn says(line: &[u8]) -> Line
     ensures { result ≡ spec.says line.now }
 {
-    if line.len() < 5 {
-        return Line::Bad;
+    if line.starts_with(b"code=") {
+        Line::Code
+    } else if line == b"null=".as_slice() {
+        Line::Null
+    } else {
+        Line::Bad
     }
-    if order::same(&line[0..5], b"code=") {
-        return Line::Code;
-    }
-    if order::same(line, b"null=") {
-        return Line::Null;
-    }
-    Line::Bad
 }
 
 fn bad(line: Line) -> bool
     ensures { result ≡ spec.is_bad_line line }
 {
-    match line {
-        Line::Code => false,
-        Line::Null => false,
-        Line::Bad => true,
+    matches!(line, Line::Bad)
+}
+
+// The lines of a text from where the next one starts, each without its line feed; the last line feed may be missing.
+#[derive(Drop)]
+struct Lines<'a> {
+    rest: &'a [u8],
+}
+
+impl<'a> Iterator for Lines<'a> {
+    type Item = &'a [u8];
+
+    ghost next_gives = { YieldsFirstRef (λ s. lines s.rest.now) };
+
+    ghost remaining = { items_left (λ s. lines s.rest.now) };
+
+    fn next(&mut self) -> Option<&'a [u8]> {
+        let rest = self.rest;
+        if rest.is_empty() {
+            return None;
+        }
+        let end = rest.iter().position(|b| *b == b'\n').unwrap_or(rest.len());
+        self.rest = rest.get(end + 1..).unwrap_or(&[]);
+        Some(&rest[..end])
     }
 }
 
-// The end of the line that starts at `at`: the first line feed, or the end of s.
-fn line_end(s: &[u8], at: usize) -> usize
-    requires { at ≤ length s.now }
-    ensures { (result ≡ at + index_of 10 (slice at (length s.now) s.now)) × (at ≤ result) × (result ≤ length s.now) }
-{
-    match s[at..].iter().position(|b| *b == 10) {
-        Some(k) => at + k,
-        None => s.len(),
-    }
-}
-
-// The start of the next line: past the line feed, if there is one.
-fn after(n: usize, e: usize) -> usize
-    requires { e ≤ n }
-    ensures { (e ≤ result) × (result ≤ n) × ((e < n) → result ≡ e + 1) × ((n ≤ e) → result ≡ e) × (min (e + 1) n ≤ result) }
-{
-    if e < n {
-        return e + 1;
-    }
-    e
-}
-
-// The number of the first bad line, from 1; 0 where there is none.
+// The number of the first bad line, from 1; 0 where there is none. No Option: `first_bad_line` has that 0, and whole's `answered-bad` speaks of it.
 pub fn first_bad(s: &[u8]) -> usize
     ensures { result ≡ first_bad_line 0 (lines s.now) }
 {
-    let mut at = 0;
-    let mut n = 0;
-    while at < s.len() {
-        let e = line_end(s, at);
-        if bad(says(&s[at..e])) {
-            return n + 1;
-        }
-        n += 1;
-        at = after(s.len(), e);
+    match (Lines { rest: s }).position(|line| bad(says(line))) {
+        Some(k) => k + 1,
+        None => 0,
     }
-    0
 }
 
 // The row of a line. The verdict is dropped: the crate `answering` proves that none is refused where the input is accepted.
@@ -100,37 +88,14 @@ fn turn(
         ≡ added line.now (held s views.old bytes.old starts.old lens.old nulls.old
         places.old) }
 {
-    let what = says(line);
-    match what {
+    match says(line) {
         Line::Code => {
-            let r = values::append_value(s, views, bytes, starts, lens, nulls, places, tail(line));
-            r.state
+            let x = line.get(5..).unwrap_or(&[]);
+            values::append_value(s, views, bytes, starts, lens, nulls, places, x).state
         }
-        Line::Null => {
-            let r = values::append_null(
-                s,
-                views,
-                &bytes[..],
-                &starts[..],
-                &lens[..],
-                nulls,
-                &places[..],
-            );
-            r.state
-        }
+        Line::Null => values::append_null(s, views, bytes, starts, lens, nulls, places).state,
         Line::Bad => s,
     }
-}
-
-// What follows the first five bytes.
-fn tail<'a>(line: &'a [u8]) -> &'a [u8]
-    ensures { result.now ≡ drop 5 line.now }
-{
-    let n = line.len();
-    if n < 5 {
-        return &line[n..n];
-    }
-    &line[5..n]
 }
 
 // The rows of all lines.
@@ -149,11 +114,8 @@ fn add_lines(
         nulls.old places.old) }
 {
     let mut s = before;
-    let mut at = 0;
-    while at < input.len() {
-        let e = line_end(input, at);
-        s = turn(s, views, bytes, starts, lens, nulls, places, &input[at..e]);
-        at = after(input.len(), e);
+    for line in (Lines { rest: input }) {
+        s = turn(s, views, bytes, starts, lens, nulls, places, line);
     }
     s
 }
@@ -182,10 +144,17 @@ pub fn build(
         },
         places,
     );
-    let first = begun.state;
-    let s = add_lines(first, views, bytes, starts, lens, nulls, places, input);
-    let done = finishing::finish(s, &views[..], &bytes[..], starts, lens, &nulls[..], places);
-    done.column
+    let s = add_lines(
+        begun.state,
+        views,
+        bytes,
+        starts,
+        lens,
+        nulls,
+        places,
+        input,
+    );
+    finishing::finish(s, views, bytes, starts, lens, nulls, places).column
 }
 
 // What stands on a line of a listing: a row, or how many rows aren't shown.
@@ -199,10 +168,7 @@ pub enum Item {
 pub fn items(rows: usize) -> usize
     ensures { result ≡ item_count rows }
 {
-    if rows <= 20 {
-        return rows;
-    }
-    21
+    rows.min(21)
 }
 
 // Line k of them: above twenty rows the first ten, the gap, the last ten.
@@ -210,16 +176,13 @@ pub fn nth_item(rows: usize, k: usize) -> Item
     requires { k < item_count rows }
     ensures { result ≡ item_at rows k }
 {
-    if rows <= 20 {
-        return Item::Row(k);
+    if rows <= 20 || k < 10 {
+        Item::Row(k)
+    } else if k == 10 {
+        Item::Gap(rows - 20)
+    } else {
+        Item::Row(rows - 21 + k)
     }
-    if k < 10 {
-        return Item::Row(k);
-    }
-    if k == 10 {
-        return Item::Gap(rows - 20);
-    }
-    Item::Row(rows - 21 + k)
 }
 
 // Where the part of a value that begins at `at` ends: 800 bytes on, or at the value's end.
@@ -228,8 +191,5 @@ pub fn part_end(n: usize, at: usize) -> usize
     ensures value { result ≡ part_end n at }
     ensures lower_bound { (at < result) × (result ≤ n) × (result ≤ at + 800) }
 {
-    if n - at < 800 {
-        return n;
-    }
-    at + 800
+    at + (n - at).min(800)
 }

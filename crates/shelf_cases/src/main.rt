@@ -4,7 +4,7 @@
 
 ghost use Rattle.std.specs.Prelude.{◌≤◌, length};
 
-use column::Column;
+use column::{Buffers, Column};
 use std::env::{Env, FillError};
 use std::io::Read;
 use std::rt::Files;
@@ -28,32 +28,22 @@ fn read_part<R: Read>(file: &mut R, want: &mut [u8], n: usize) -> io::Result<boo
 fn goes_on<R: Read>(file: &mut R, text: &[u8]) -> io::Result<bool> {
     let mut want = [0u8; whole::ROOM];
     let n = text.len();
-    if whole::ROOM < n {
-        return Ok(false);
-    }
-    if !read_part(file, &mut want, n)? {
-        return Ok(false);
-    }
-    Ok(order::same(&want[..n], text))
+    Ok(n <= want.len() && read_part(file, &mut want, n)? && &want[..n] == text)
 }
 
 // Whether a file goes on with the pieces from a place on.
-fn same_pieces<'a, R: Read>(
+fn same_pieces<R: Read>(
     file: &mut R,
-    views: &'a [u8; answering::VIEWS],
-    bytes: &'a [u8; answering::BYTES],
-    starts: &[usize; 1],
-    lens: &[usize; 1],
-    nulls: &[u8; answering::NULLS],
+    l: Buffers<'_, '_>,
     c: Column,
     first: Place,
 ) -> io::Result<bool> {
     let mut out = [0u8; whole::ROOM];
     let mut p = first;
+    // No plainer as a `for`: the loop counts nothing, and each piece says where the next begins and takes the one buffer.
     while !whole::ended(p) {
-        let r = whole::next_piece(views, bytes, starts, lens, nulls, c, p, &mut out);
-        let w = r.written;
-        if !goes_on(file, &out[..w])? {
+        let r = whole::next_piece(l, c, p, &mut out);
+        if !goes_on(file, &out[..r.written])? {
             return Ok(false);
         }
         p = r.place;
@@ -78,9 +68,14 @@ fn same_answer<R: Read>(file: &mut R, input: &[u8]) -> io::Result<bool> {
         &mut places,
         input,
     );
-    let c = begun.column;
-    let p = begun.place;
-    same_pieces(file, &views, &bytes, &starts, &lens, &nulls, c, p)
+    let l = Buffers {
+        views: &views,
+        bytes: &bytes,
+        starts: &starts,
+        lens: &lens,
+        nulls: &nulls,
+    };
+    same_pieces(file, l, begun.column, begun.place)
 }
 
 fn at_end<R: Read>(file: &mut R) -> io::Result<bool> {
@@ -111,17 +106,11 @@ fn case_right(rt: &(impl Env + Files), i: usize, j: usize) -> io::Result<bool> {
         return Ok(false);
     };
     let n = lists::read_full(&mut from, &mut input)?;
-    if !same_answer(&mut file, &input[..n])? {
-        return Ok(false);
-    }
-    at_end(&mut file)
+    Ok(same_answer(&mut file, &input[..n])? && at_end(&mut file)?)
 }
 
 fn say(rt: &impl Print, right: bool) -> io::Result<()> {
-    if right {
-        return println!(rt; " right");
-    }
-    println!(rt; " WRONG")
+    println!(rt; " {}", if right { "right" } else { "WRONG" })
 }
 
 fn one_case(rt: &(impl Env + Files + Print), i: usize, j: usize) -> io::Result<()> {
@@ -130,47 +119,29 @@ fn one_case(rt: &(impl Env + Files + Print), i: usize, j: usize) -> io::Result<(
     say(rt, case_right(rt, i, j)?)
 }
 
-// What a record of vectors.bin was.
-const WRONG: u8 = 0;
-
-const RIGHT: u8 = 1;
-
-const END: u8 = 2;
-
-// The next record.
-fn one_vector<R: Read>(file: &mut R) -> io::Result<u8> {
+// Whether the next record is right; None where there is no more.
+fn one_vector<R: Read>(file: &mut R) -> io::Result<Option<bool>> {
     let mut input = [0u8; MOST];
     let mut head = [0u8; 24];
     if lists::read_full(file, &mut head)? != 24 {
-        return Ok(END);
+        return Ok(None);
     }
-    let n = words::le64(&head, 8);
-    if 16385 < n {
-        return Ok(WRONG);
-    }
-    let m = n as usize;
-    if !read_part(file, &mut input, m)? {
-        return Ok(WRONG);
-    }
-    if same_answer(file, &input[..m])? {
-        return Ok(RIGHT);
-    }
-    Ok(WRONG)
+    let n = words::le64(&head, 8) as usize;
+    let right = n <= MOST && read_part(file, &mut input, n)? && same_answer(file, &input[..n])?;
+    Ok(Some(right))
 }
 
 // All records, each at the place where the answer before it ended: an answer that is too short or too long is told at the record after it.
 fn vectors<R: Read>(rt: &impl Print, file: &mut R) -> io::Result<()> {
-    let mut k: u64 = 0;
-    while k < RECORDS {
-        let turn = one_vector(file)?;
-        if turn == WRONG {
-            break;
+    for k in 0..RECORDS {
+        match one_vector(file)? {
+            Some(true) => {}
+            Some(false) => break,
+            None => {
+                print!(rt; "vectors {k}")?;
+                return say(rt, true);
+            }
         }
-        if turn == END {
-            print!(rt; "vectors {k}")?;
-            return say(rt, true);
-        }
-        k += 1;
     }
     print!(rt; "vectors")?;
     say(rt, false)
@@ -193,16 +164,14 @@ fn count_arguments(rt: &impl Env) -> usize
 fn cases(rt: &(impl Env + Files + Print), count: usize) -> io::Result<()>
     requires { count ≤ 9223372036854775807 }
 {
-    let mut k = 0;
-    while k < count {
+    for k in 0..count {
         one_case(rt, 2 * k + 1, 2 * k + 2)?;
-        k += 1;
     }
     Ok(())
 }
 
 fn main(rt: HostRuntime) -> io::Result<()> {
-    cases(&rt, (count_arguments(&rt) + 1) / 2)?;
+    cases(&rt, count_arguments(&rt).div_ceil(2))?;
     let Ok(mut file) = fs::open(&rt, "vectors.bin") else {
         return Ok(());
     };

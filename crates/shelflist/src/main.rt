@@ -3,7 +3,7 @@
 // Its status: 0 for a listing, 1 for a refused input, 2 where a read or a write failed.
 #![tactic(auto)]
 
-use column::Column;
+use column::{Buffers, Column};
 use std::io;
 use std::io::Write;
 use std::process::ExitCode;
@@ -13,29 +13,25 @@ use whole::Place;
 const MOST: usize = 16385;
 
 // Writes the pieces from a place on, until all are written or a write fails.
-fn write_pieces<'a, W: Write>(
+fn write_pieces<W: Write>(
     to: &mut W,
-    views: &'a [u8; answering::VIEWS],
-    bytes: &'a [u8; answering::BYTES],
-    starts: &[usize; 1],
-    lens: &[usize; 1],
-    nulls: &[u8; answering::NULLS],
+    l: Buffers<'_, '_>,
     c: Column,
     first: Place,
 ) -> io::Result<()> {
     let mut out = [0u8; whole::ROOM];
     let mut p = first;
+    // No plainer as a `for`: the loop counts nothing, and each piece says where the next begins and takes the one buffer.
     while !whole::ended(p) {
-        let r = whole::next_piece(views, bytes, starts, lens, nulls, c, p, &mut out);
-        let w = r.written;
-        to.write_all(&out[..w])?;
+        let r = whole::next_piece(l, c, p, &mut out);
+        to.write_all(&out[..r.written])?;
         p = r.place;
     }
     Ok(())
 }
 
 // Writes the answer, and answers the status. A pipe that was closed is no news.
-fn answer(rt: &(impl Print + Eprint), input: &[u8]) -> u8 {
+fn answer(rt: &(impl Print + Eprint), input: &[u8]) -> ExitCode {
     let mut views = [0u8; answering::VIEWS];
     let mut bytes = [0u8; answering::BYTES];
     let mut starts = [0usize; 1];
@@ -51,23 +47,29 @@ fn answer(rt: &(impl Print + Eprint), input: &[u8]) -> u8 {
         &mut places,
         input,
     );
-    let c = begun.column;
+    let l = Buffers {
+        views: &views,
+        bytes: &bytes,
+        starts: &starts,
+        lens: &lens,
+        nulls: &nulls,
+    };
     let p = begun.place;
     let mut to = io::writer(rt);
-    if let Err(why) = write_pieces(&mut to, &views, &bytes, &starts, &lens, &nulls, c, p) {
+    if let Err(why) = write_pieces(&mut to, l, begun.column, p) {
         console::tell(rt, "shelflist: standard output", &why);
-        return 2;
+        ExitCode::from(2)
+    } else if console::is_refusal(p) {
+        ExitCode::from(1)
+    } else {
+        ExitCode::SUCCESS
     }
-    if console::is_refusal(p) {
-        return 1;
-    }
-    0
 }
 
 fn main(rt: HostRuntime) -> ExitCode {
     let mut input = [0u8; MOST];
     match console::read_all(&mut rt.reader(), &mut input) {
-        Ok(n) => ExitCode::from(answer(&rt, &input[..n])),
+        Ok(n) => answer(&rt, &input[..n]),
         Err(why) => {
             console::tell(&rt, "shelflist: standard input", &why);
             ExitCode::from(2)

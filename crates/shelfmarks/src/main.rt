@@ -8,7 +8,7 @@ ghost use Rattle.column.specs.Lent.{lent_of};
 ghost use Rattle.marking.specs.Text.{marked_answer};
 ghost use Rattle.marking.specs.Left.{marks_left};
 
-use column::Column;
+use column::{Buffers, Column};
 use std::io;
 use std::io::Write;
 use std::process::ExitCode;
@@ -18,32 +18,28 @@ use whole::Place;
 const MOST: usize = 16385;
 
 // Writes the pieces from a place on, until all are written or a write fails. What is left to write there is the answer to the input, whole.
-fn write_pieces<'a, W: Write>(
+fn write_pieces<W: Write>(
     to: &mut W,
-    views: &'a [u8; answering::VIEWS],
-    bytes: &'a [u8; answering::BYTES],
-    starts: &[usize; 1],
-    lens: &[usize; 1],
-    nulls: &[u8; answering::NULLS],
+    l: Buffers<'_, '_>,
     c: Column,
     first: Place,
     input: &[u8],
 ) -> io::Result<()>
-    requires { marks_left (lent_of views bytes starts lens nulls) c first ≡ marked_answer input.now }
+    requires { marks_left (lent_of l) c first ≡ marked_answer input.now }
 {
     let mut out = [0u8; whole::ROOM];
     let mut p = first;
+    // No plainer as a `for`: the loop counts nothing, and each piece says where the next begins and takes the one buffer. Its twin in shelflist calls `whole::next_piece`, whose contract measures by another text: a trait with both would be longer than the loop.
     while !whole::ended(p) {
-        let r = marking::next_piece(views, bytes, starts, lens, nulls, c, p, &mut out);
-        let w = r.written;
-        to.write_all(&out[..w])?;
+        let r = marking::next_piece(l, c, p, &mut out);
+        to.write_all(&out[..r.written])?;
         p = r.place;
     }
     Ok(())
 }
 
 // Writes the answer, and answers the status. A pipe that was closed is no news.
-fn answer(rt: &(impl Print + Eprint), input: &[u8]) -> u8 {
+fn answer(rt: &(impl Print + Eprint), input: &[u8]) -> ExitCode {
     let mut views = [0u8; answering::VIEWS];
     let mut bytes = [0u8; answering::BYTES];
     let mut starts = [0usize; 1];
@@ -59,23 +55,29 @@ fn answer(rt: &(impl Print + Eprint), input: &[u8]) -> u8 {
         &mut places,
         input,
     );
-    let c = begun.column;
+    let l = Buffers {
+        views: &views,
+        bytes: &bytes,
+        starts: &starts,
+        lens: &lens,
+        nulls: &nulls,
+    };
     let p = begun.place;
     let mut to = io::writer(rt);
-    if let Err(why) = write_pieces(&mut to, &views, &bytes, &starts, &lens, &nulls, c, p, input) {
+    if let Err(why) = write_pieces(&mut to, l, begun.column, p, input) {
         console::tell(rt, "shelfmarks: standard output", &why);
-        return 2;
+        ExitCode::from(2)
+    } else if console::is_refusal(p) {
+        ExitCode::from(1)
+    } else {
+        ExitCode::SUCCESS
     }
-    if console::is_refusal(p) {
-        return 1;
-    }
-    0
 }
 
 fn main(rt: HostRuntime) -> ExitCode {
     let mut input = [0u8; MOST];
     match console::read_all(&mut rt.reader(), &mut input) {
-        Ok(n) => ExitCode::from(answer(&rt, &input[..n])),
+        Ok(n) => answer(&rt, &input[..n]),
         Err(why) => {
             console::tell(&rt, "shelfmarks: standard input", &why);
             ExitCode::from(2)

@@ -5,11 +5,9 @@ use Rattle.std.proofs.Math.Decide.{ℕ_discrete}
 use Rattle.std.proofs.Common.{arith, leb-true, le-leb}
 use Rattle.std.proofs.lemmas.Bool.{not-false}
 use Rattle.bounds.specs.Bounds.{row_limit, block_limit, byte_limit}
-use Rattle.bounds.specs.Refusals.{refuse}
+use Rattle.bounds.specs.Refusals.{refuse, accepted, Why}
 use Rattle.bounds.specs.declared.Refusal.{Refusal}
 use Rattle.bounds.specs.declared.Refusal.TheVariants.{BadView}
-use Rattle.bounds.specs.declared.Why.{Why}
-use Rattle.bounds.specs.declared.Why.TheVariants.{Accepted}
 use Rattle.views.specs.View.{view_size}
 use Rattle.column.specs.declared.Column.{Column}
 use Rattle.column.specs.Lent.{Lent, row_room, block_room, data_room, fits}
@@ -71,13 +69,13 @@ unfolding fits
 fitted l c f = rw (le-leb (c.first + c.rows) (row_room c.mapped l) f.rows, le-leb c.blocks (block_room l) f.blocks)
 
 -- a call was accepted: the test failed, and the later ones accept
-pub passed : (r : Refusal) (b : Bool) (w : Why) → refuse r b w ≡ Accepted → (b ≡ false) × (w ≡ Accepted)
+pub passed : (r : Refusal) (b : Bool) (w : Why) → refuse r b w ≡ accepted → (b ≡ false) × (w ≡ accepted)
 unfolding refuse
 passed r true w e = let z : ◌≡◌ {A = ℕ} 0 1 = cc in absurd (omega arith)
 passed r false w e = (refl, e)
 
 -- and every row passed
-pub all-passed : (good : ℕ → Bool) (n : ℕ) (w : Why) → lowest good n w ≡ Accepted → ((i : ℕ) → i < n → good i ≡ true) × (w ≡ Accepted)
+pub all-passed : (good : ℕ → Bool) (n : ℕ) (w : Why) → lowest good n w ≡ accepted → ((i : ℕ) → i < n → good i ≡ true) × (w ≡ accepted)
 unfolding lowest
 all-passed good zero w e = ((λ i h. absurd (omega arith)), e)
 all-passed good (suc n) w e =

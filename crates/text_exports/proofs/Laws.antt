@@ -1,19 +1,20 @@
--- The two answers to the UTF-8 question. Assumes nothing.
-use mathlib.Core.Path.{◌≡◌}
+-- The answer to the UTF-8 question. Assumes nothing.
+use Rattle.std.specs.Prelude.{◌≡◌, refl, Bool, true, false, eqb}
+use Rattle.basis.specs.Pick.{pick}
+use mir.Val.{bool_byte}
 use mathlib.Core.List.{List}
 use Prim.Native.Nat.{ℕ}
-use borrow.Author.Tests.{eq-eqb, ne_eqb}
 use lib.ListN.{length}
 use Rattle.utf8.specs.Table.{first_bad}
 use Rattle.utf8.proofs.First.{formed-end}
 use Rattle.text_exports.specs.declared.Text.{Text}
 use Rattle.text_exports.specs.Told.{text_of}
 
-module _ (x : List ℕ) (p : ℕ) (e : p ≡ first_bad x) where
-  pub told-yes : p ≡ length x → ◌≡◌ {A = Text} (record { yes = 1; place = p }) (text_of x)
-  unfolding text_of
-  told-yes h = rw (formed-end x, ← e, eq-eqb p (length x) h)
+-- a truth as a number
+one-if : (t : Bool) → bool_byte t ≡ pick t 1 0
+one-if true = refl
+one-if false = refl
 
-  pub told-no : (p ≡ length x → ⊥) → ◌≡◌ {A = Text} (record { yes = 0; place = p }) (text_of x)
-  unfolding text_of
-  told-no h = rw (formed-end x, ← e, ne_eqb p (length x) h)
+pub told-is : (x : List ℕ) (y p : ℕ) → p ≡ first_bad x → y ≡ bool_byte (eqb p (length x)) → ◌≡◌ {A = Text} (record { yes = y; place = p }) (text_of x)
+unfolding text_of
+told-is x y p e h = rw (h, one-if (eqb p (length x)), formed-end x, e)

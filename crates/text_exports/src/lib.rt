@@ -7,7 +7,7 @@ ghost use Rattle.views.specs.View.{make_view};
 ghost use Rattle.views.specs.Made.{view_why};
 ghost use Rattle.text_exports.specs.Told.{text_of};
 
-use bounds::Why;
+use bounds::Refusal;
 
 // Is a text well formed, 1 or 0, and where does its first ill-formed sequence begin? In a well-formed text the place is its end.
 #[repr(C)]
@@ -22,15 +22,9 @@ pub extern "C" fn tambuyeel_utf8(x: &[u8]) -> Text
     ensures { result ≡ text_of x.now }
 {
     let place = utf8::first_bad(x);
-    if place == x.len() {
-        return Text {
-            yes: 1,
-            place: place,
-        };
-    }
     Text {
-        yes: 0,
-        place: place,
+        yes: u64::from(place == x.len()),
+        place,
     }
 }
 
@@ -41,13 +35,12 @@ pub extern "C" fn tambuyeel_make_view(x: &[u8], block: u32, offset: u32, view: &
     ensures view_after { view.new ≡ if_accepted (view_why x.now) (make_view x.now block offset) view.old }
 {
     let made = views::make_view(x, block, offset);
-    let why = made.why;
-    match why {
-        Why::Accepted => {
+    match made.why {
+        Ok(()) => {
             let v = made.view;
-            words::copy16(view, 0, &v, 0);
+            *view = v;
             0
         }
-        Why::Refused(r) => bounds::number(r) as u64,
+        Err(r) => r.number() as u64,
     }
 }

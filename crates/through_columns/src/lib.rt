@@ -2,108 +2,94 @@
 // slices, as through_records has the other calls. Their contracts say no more than that they are safe and end.
 #![tactic(auto)]
 
-ghost use Rattle.std.specs.Prelude.{◌≤◌};
-
 use builder::{Answer, State};
-use column::Column;
+use column::{Buffers, Column};
 use compaction::Outcome;
+use through_records::Table;
 
 // A view of a completed block is added.
 pub fn append_view(
-    starts: &[usize],
-    lens: &[usize],
-    n: usize,
     s: State,
     views: &mut [u8],
     bytes: &[u8],
+    starts: &[usize],
+    lens: &[usize],
     nulls: &mut [u8],
     places: &[u32],
     block: u32,
     offset: u32,
     size: u32,
-) -> Answer
-    requires { n ≤ 16 }
-{
-    let t = through_records::gather(starts, lens);
-    filing_columns::append_view(s, views, bytes, &t[..n], nulls, places, block, offset, size)
+) -> Answer {
+    let t = Table::gather(starts, lens);
+    filing_columns::append_view(
+        s,
+        views,
+        bytes,
+        t.lent(),
+        nulls,
+        places,
+        block,
+        offset,
+        size,
+    )
 }
 
-// A column is added: the builder's table of n records, the column's of m.
-pub fn append_column<'a>(
-    starts: &[usize],
-    lens: &[usize],
-    n: usize,
+// A column is added.
+pub fn append_column(
     s: State,
     views: &mut [u8],
     bytes: &mut [u8],
+    starts: &mut [usize],
+    lens: &mut [usize],
     nulls: &mut [u8],
     places: &[u32],
-    srcstarts: &[usize],
-    srclens: &[usize],
-    m: usize,
-    srcviews: &'a [u8],
-    srcbytes: &'a [u8],
-    srcnulls: &'a [u8],
+    src: Buffers<'_, '_>,
     c: Column,
-    newstarts: &mut [usize],
-    newlens: &mut [usize],
-) -> Answer
-    requires { (n ≤ 16) × (m ≤ 16) }
-{
-    let mut t = through_records::gather(starts, lens);
-    let u = through_records::gather(srcstarts, srclens);
+) -> Answer {
+    let mut t = Table::gather(starts, lens);
+    let u = Table::gather(src.starts, src.lens);
     let r = filing_columns::append_column(
         s,
         views,
         bytes,
-        &mut t[..n],
+        t.lend(),
         nulls,
         places,
-        srcviews,
-        srcbytes,
-        &u[..m],
-        srcnulls,
+        src.views,
+        src.bytes,
+        u.lent(),
+        src.nulls,
         c,
     );
-    through_records::scatter(t, newstarts, newlens);
+    t.scatter(starts, lens);
     r
 }
 
-// A column is written anew: its table of m records, the new column's of n.
-pub fn compact<'a>(
-    starts: &[usize],
-    lens: &[usize],
-    n: usize,
-    srcstarts: &[usize],
-    srclens: &[usize],
-    m: usize,
-    views: &'a [u8],
-    bytes: &'a [u8],
-    nulls: &'a [u8],
+// A column is written anew.
+pub fn compact(
+    l: Buffers<'_, '_>,
     c: Column,
     most: usize,
     newviews: &mut [u8],
     newbytes: &mut [u8],
-    newnulls: &mut [u8],
     newstarts: &mut [usize],
     newlens: &mut [usize],
-) -> Outcome
-    requires { (n ≤ 16) × (m ≤ 16) }
-{
-    let mut t = through_records::gather(starts, lens);
-    let u = through_records::gather(srcstarts, srclens);
+    newnulls: &mut [u8],
+) -> Outcome {
+    let mut t = Table::gather(newstarts, newlens);
+    let u = Table::gather(l.starts, l.lens);
     let r = compaction_blocks::compact(
-        views,
-        bytes,
-        &u[..m],
-        nulls,
+        l.views,
+        l.bytes,
+        u.lent(),
+        l.nulls,
         c,
         most,
         newviews,
         newbytes,
-        &mut t[..n],
+        t.lend(),
         newnulls,
     );
-    through_records::scatter(t, newstarts, newlens);
+    t.scatter(newstarts, newlens);
     r
 }

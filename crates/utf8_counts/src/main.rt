@@ -5,30 +5,13 @@ ghost use Rattle.std.specs.Prelude.{◌≤◌};
 
 use std::io;
 
-// 1 if the first n bytes are a well-formed text.
-fn formed(buf: &[u8], n: usize) -> u64
-    ensures { result ≤ 1 }
+// How many of the first strings of n bytes are well-formed.
+fn count(n: usize, strings: u32) -> usize
+    requires { n ≤ 4 }
 {
-    if buf.len() < n {
-        return 0;
-    }
-    if utf8::is_utf8(&buf[..n]) {
-        return 1;
-    }
-    0
-}
-
-fn low(x: u64) -> u8 {
-    (x % 256) as u8
-}
-
-fn count(n: usize, strings: u64) -> u64 {
-    let mut found: u64 = 0;
-    for x in 0..strings {
-        let buf = [low(x), low(x / 256), low(x / 65536)];
-        found += formed(&buf, n);
-    }
-    found
+    (0..strings)
+        .filter(|x| utf8::is_utf8(&x.to_le_bytes()[..n]))
+        .count()
 }
 
 fn main(rt: HostRuntime) -> io::Result<()> {

@@ -1,12 +1,11 @@
 -- The check of a column that fits, as a walk over its rows and blocks finds it. Assumes nothing.
+use Rattle.std.specs.Prelude.{Err}
 use mathlib.Core.Path.{◌≡◌, refl, ◌∙◌}
 use mathlib.Core.Bool.{Bool, true, false, not}
 use mathlib.Core.List.{List, []}
 use Prim.Native.Nat.{ℕ, ◌<◌}
-use Rattle.bounds.specs.Refusals.{refuse, refuse-yes, refuse-no}
+use Rattle.bounds.specs.Refusals.{refuse, refuse-yes, refuse-no, accepted, Why}
 use Rattle.bounds.specs.declared.Refusal.TheVariants.{Fit, Range, BadView}
-use Rattle.bounds.specs.declared.Why.{Why}
-use Rattle.bounds.specs.declared.Why.TheVariants.{Accepted, Refused}
 use Rattle.column.specs.declared.Column.{Column}
 use Rattle.column.specs.Lent.{Lent, lent, fits, in_data, data_room, all_in_data}
 use Rattle.column.specs.Room.{bare}
@@ -26,32 +25,32 @@ module _ (views bytes starts lens nulls : List ℕ) (c : Column) where
 
   -- 9
   abbrev blocked : Why
-  blocked = refuse Range (not (all_in_data whole c.blocks)) Accepted
+  blocked = refuse Range (not (all_in_data whole c.blocks)) accepted
 
   judged-whole : (w : Why) → lowest judged c.rows w ≡ lowest (true_at c.kind whole c) c.rows w
   unfolding is_true reachable reach_of in_data data_room blocks_of
   judged-whole w = refl
 
-  pub invalid-fit : not (fits whole c) ≡ true → Refused Fit ≡ why_invalid whole c
+  pub invalid-fit : not (fits whole c) ≡ true → Err Fit ≡ why_invalid whole c
   unfolding why_invalid
-  invalid-fit h = refuse-yes Fit (not (fits whole c)) _ (Refused Fit) h refl
+  invalid-fit h = refuse-yes Fit (not (fits whole c)) _ (Err Fit) h refl
 
   module _ (fit : not (fits whole c) ≡ false) where
-    pub invalid-row : (k : ℕ) → k < c.rows → ((r : ℕ) → r < k → judged r ≡ true) → judged k ≡ false → Refused (BadView k) ≡ why_invalid whole c
+    pub invalid-row : (k : ℕ) → k < c.rows → ((r : ℕ) → r < k → judged r ≡ true) → judged k ≡ false → Err (BadView k) ≡ why_invalid whole c
     unfolding why_invalid
-    invalid-row k h g b = refuse-no Fit (not (fits whole c)) _ (Refused (BadView k)) fit (lowest-bad judged k c.rows blocked h g b ∙ judged-whole blocked)
+    invalid-row k h g b = refuse-no Fit (not (fits whole c)) _ (Err (BadView k)) fit (lowest-bad judged k c.rows blocked h g b ∙ judged-whole blocked)
 
     module _ (good : (r : ℕ) → r < c.rows → judged r ≡ true) where
       all_true : (w : Why) → w ≡ blocked → w ≡ why_invalid whole c
       unfolding why_invalid
       all_true w e = refuse-no Fit (not (fits whole c)) _ w fit (e ∙ lowest-none judged c.rows blocked good ∙ judged-whole blocked)
 
-      pub invalid-block : not (all_in_data (bare [] bytes starts lens) c.blocks) ≡ true → Refused Range ≡ why_invalid whole c
+      pub invalid-block : not (all_in_data (bare [] bytes starts lens) c.blocks) ≡ true → Err Range ≡ why_invalid whole c
       invalid-block h =
-          all_true (Refused Range) (refuse-yes Range (not (all_in_data whole c.blocks)) Accepted (Refused Range)
+          all_true (Err Range) (refuse-yes Range (not (all_in_data whole c.blocks)) accepted (Err Range)
           (rw (all-bare views bytes starts lens nulls c.blocks) h) refl)
 
-      pub valid : not (all_in_data (bare [] bytes starts lens) c.blocks) ≡ false → Accepted ≡ why_invalid whole c
+      pub valid : not (all_in_data (bare [] bytes starts lens) c.blocks) ≡ false → accepted ≡ why_invalid whole c
       valid h =
-          all_true Accepted (refuse-no Range (not (all_in_data whole c.blocks)) Accepted Accepted
+          all_true accepted (refuse-no Range (not (all_in_data whole c.blocks)) accepted accepted
           (rw (all-bare views bytes starts lens nulls c.blocks) h) refl)

@@ -1,11 +1,11 @@
 // The calls that add a value, a value n times, or a null, and the search of the merge table. The state goes in by value and comes back; the buffers are lent.
 #![tactic(auto)]
 
-ghost use Rattle.std.specs.Prelude.{◌≡◌, true, false, not, ◌&&◌, ℕ, suc, ◌+◌, ◌-◌, ◌*◌, ◌^◌, ◌≤◌, ◌<◌, max, leb, eqb, length, take, drop};
+ghost use Rattle.std.specs.Prelude.{◌≡◌, true, false, not, ◌&&◌, ℕ, suc, ◌+◌, ◌-◌, ◌*◌, ◌^◌, ◌≤◌, ◌<◌, leb, eqb, length, take, drop};
 ghost use Rattle.std.proofs.Math.Seq.{paste};
 ghost use Rattle.basis.specs.Pick.{pick};
 ghost use Rattle.bounds.specs.Bounds.{row_limit, block_limit};
-ghost use Rattle.bounds.specs.Refusals.{refuse};
+ghost use Rattle.bounds.specs.Refusals.{refuse, accepted};
 ghost use Rattle.words.specs.Words.{put_word};
 ghost use Rattle.views.specs.View.{short_most, view_at};
 ghost use Rattle.growth.specs.Growing.{fits_growth};
@@ -19,7 +19,7 @@ ghost use Rattle.builder.specs.Does.{Does};
 ghost use Rattle.builder.specs.TimesLaws.{put_copies, rowed_by};
 ghost use Rattle.builder.specs.RoomLaws.{Judged};
 
-use bounds::{Refusal, Why};
+use bounds::Refusal;
 use builder::{Answer, Merging, State};
 use column::Kind;
 use merging::Found;
@@ -35,51 +35,56 @@ fn of_kind(kind: Kind, x: &[u8]) -> bool
 }
 
 // 4, 10 and 5 for a value as so many rows more.
-fn why_row(kind: Kind, x: &[u8], rows: usize, more: usize, room: usize) -> Why
+fn why_row(kind: Kind, x: &[u8], rows: usize, more: usize, room: usize) -> Result<(), Refusal>
     requires { rows ≤ room }
-    ensures { result ≡ why_rows kind x.now rows more room Why.Accepted }
+    ensures { result ≡ why_rows kind x.now rows more room accepted }
 {
     if bounds::BYTE_LIMIT < x.len() {
-        return Why::Refused(Refusal::TooLong);
+        return Err(Refusal::TooLong);
     }
     if !of_kind(kind, x) {
-        return Why::Refused(Refusal::NotUtf8);
+        return Err(Refusal::NotUtf8);
     }
     if room - rows < more {
-        return Why::Refused(Refusal::RowRoom);
+        return Err(Refusal::RowRoom);
     }
-    Why::Accepted
+    Ok(())
 }
 
 // 2, 4, 10 and 5; no row is accepted whatever the value.
-pub fn why_first(s: State, rows: usize, blocks: usize, bytes: usize, x: &[u8], n: usize) -> Why
+pub fn why_first(
+    s: State,
+    rows: usize,
+    blocks: usize,
+    bytes: usize,
+    x: &[u8],
+    n: usize,
+) -> Result<(), Refusal>
     requires { blocks ≤ block_limit }
-    ensures { result ≡ refuse Refusal.Fit (not (fits_rooms s rows blocks bytes)) (pick (eqb n 0) Why.Accepted (why_rows s.kind x.now
-        s.rows n rows Why.Accepted)) }
+    ensures { result ≡ refuse Refusal.Fit (not (fits_rooms s rows blocks bytes)) (pick (eqb n 0) accepted (why_rows s.kind x.now
+        s.rows n rows accepted)) }
 {
     if !builder::state_fits(s, rows, blocks, bytes) {
-        return Why::Refused(Refusal::Fit);
+        return Err(Refusal::Fit);
     }
     if n == 0 {
-        return Why::Accepted;
+        return Ok(());
     }
-    let kind = s.kind;
-    let have = s.rows;
-    why_row(kind, x, have, n, rows)
+    why_row(s.kind, x, s.rows, n, rows)
 }
 
 // 2 and 5 for a null.
-pub fn why_null(s: State, rows: usize, blocks: usize, bytes: usize) -> Why
+pub fn why_null(s: State, rows: usize, blocks: usize, bytes: usize) -> Result<(), Refusal>
     requires { blocks ≤ block_limit }
-    ensures { result ≡ refuse Refusal.Fit (not (fits_rooms s rows blocks bytes)) (refuse Refusal.RowRoom (leb rows s.rows) Why.Accepted) }
+    ensures { result ≡ refuse Refusal.Fit (not (fits_rooms s rows blocks bytes)) (refuse Refusal.RowRoom (leb rows s.rows) accepted) }
 {
     if !builder::state_fits(s, rows, blocks, bytes) {
-        return Why::Refused(Refusal::Fit);
+        return Err(Refusal::Fit);
     }
     if rows <= s.rows {
-        return Why::Refused(Refusal::RowRoom);
+        return Err(Refusal::RowRoom);
     }
-    Why::Accepted
+    Ok(())
 }
 
 // A null row is added: the work.
@@ -96,31 +101,22 @@ fn null_call(
         places.now
         result views.new bytes.now starts.now lens.now nulls.new places.now }
 {
-    let merging = s.merging;
     let rows = s.rows;
-    let room = builder::rows_room(merging, views.len(), nulls.len(), places.len());
     let w = why_null(
         s,
-        room,
+        builder::rows_room(s.merging, views.len(), nulls.len(), places.len()),
         builder::blocks_room(starts.len(), lens.len()),
         builder::bytes_room(bytes.len()),
     );
-    if !bounds::is_accepted(w) {
+    if w.is_err() {
         return Answer { why: w, state: s };
     }
     views::zero_view(views, views::VIEW_SIZE * rows);
     null_bits::put_bit(nulls, rows, false);
-    let t = builder::row_more(s, false);
     Answer {
-        why: Why::Accepted,
-        state: t,
+        why: Ok(()),
+        state: builder::row_more(s, false),
     }
-}
-
-fn most(a: usize, b: usize) -> usize
-    ensures { result ≡ max a b }
-{
-    if a < b { b } else { a }
 }
 
 // Whether an open block is there that takes n bytes more.
@@ -128,12 +124,7 @@ pub fn fits_open(s: State, n: usize) -> bool
     requires { s.fill + n < 2 ^ 64 }
     ensures { result ≡ fits_open s n }
 {
-    let fill = s.fill;
-    let cap = s.cap;
-    if fill == 0 {
-        return false;
-    }
-    fill + n <= cap
+    s.fill != 0 && s.fill + n <= s.cap
 }
 
 // The state with the open block, if any, completed, and the next size taken for a block that holds n bytes at least.
@@ -141,21 +132,14 @@ pub fn fresh(s: State, n: usize) -> State
     requires { (all_blocks s < 2 ^ 64) × (used s < 2 ^ 64) × (fits_growth s.growth ≡ true) }
     ensures { result ≡ sized n (closed s) }
 {
-    let kind = s.kind;
-    let merging = s.merging;
-    let old = s.growth;
-    let step = old.step();
-    let growth = step.growth;
+    let step = s.growth.step();
     State {
-        kind,
-        growth,
-        merging,
-        rows: s.rows,
+        growth: step.growth,
         blocks: builder::all_blocks(s),
         base: s.base + s.fill,
         fill: 0,
-        cap: most(n, step.size),
-        nulled: s.nulled,
+        cap: n.max(step.size),
+        ..s
     }
 }
 
@@ -166,10 +150,11 @@ fn make_room(s: State, starts: &mut [usize], lens: &mut [usize], n: usize) -> St
         × (lens.new ≡ pick (fits_open s n) lens.old (open_lens s lens.old)) }
 {
     if fits_open(s, n) {
-        return s;
+        s
+    } else {
+        builder::put_record(s, starts, lens);
+        fresh(s, n)
     }
-    builder::put_record(s, starts, lens);
-    fresh(s, n)
 }
 
 // The state with n bytes more in the open block and a valid row more.
@@ -177,10 +162,11 @@ pub fn stored(s: State, n: usize) -> State
     requires { (s.rows < row_limit) × (s.fill + n < 2 ^ 64) }
     ensures { result ≡ rowed true (laid n s) }
 {
-    let mut t = s;
-    t.rows = s.rows + 1;
-    t.fill = s.fill + n;
-    t
+    State {
+        rows: s.rows + 1,
+        fill: s.fill + n,
+        ..s
+    }
 }
 
 // The view of a row written as two words.
@@ -199,11 +185,9 @@ pub fn copy_view(views: &mut [u8], from: usize, to: usize)
     ensures { views.new ≡ paste views.old (16 * to) (view_at views.old from) 16 }
 {
     let p = views::VIEW_SIZE * from;
-    let o = views::VIEW_SIZE * to;
-    let lo = words::le64(&views[..], p);
-    let hi = words::le64(&views[..], p + 8);
-    words::put64(views, o, lo);
-    words::put64(views, o + 8, hi);
+    let lo = words::le64(views, p);
+    let hi = words::le64(views, p + 8);
+    put_words(views, to, lo, hi);
 }
 
 // Whether n bytes more need a new block, and there is no room for one.
@@ -211,26 +195,21 @@ fn no_block(s: State, blocks: usize, n: usize) -> bool
     requires { (all_blocks s < 2 ^ 64) × (used s + n < 2 ^ 64) }
     ensures { result ≡ not (fits_open s n) && leb blocks (all_blocks s) }
 {
-    if fits_open(s, n) {
-        return false;
-    }
-    blocks <= builder::all_blocks(s)
+    !fits_open(s, n) && blocks <= builder::all_blocks(s)
 }
 
 // 6 and 7 for n bytes more.
-pub fn why_lay(s: State, blocks: usize, bytes: usize, n: usize) -> Why
+pub fn why_lay(s: State, blocks: usize, bytes: usize, n: usize) -> Result<(), Refusal>
     requires { (all_blocks s < 2 ^ 64) × (used s + n < 2 ^ 64) }
     ensures { result ≡ why_lay s blocks bytes n }
 {
-    let base = s.base;
-    let fill = s.fill;
     if no_block(s, blocks, n) {
-        return Why::Refused(Refusal::BlockRoom);
+        return Err(Refusal::BlockRoom);
     }
-    if bytes < base + fill + n {
-        return Why::Refused(Refusal::DataRoom);
+    if bytes < s.base + s.fill + n {
+        return Err(Refusal::DataRoom);
     }
-    Why::Accepted
+    Ok(())
 }
 
 // Whether row r is there and shows x, which is long.
@@ -246,9 +225,6 @@ fn shows_row(
     requires { Ready s views.now starts.now lens.now × (12 < length x.now) }
     ensures { result ≡ shows_row s (bare views.now bytes.now starts.now lens.now) x.now r }
 {
-    let blocks = s.blocks;
-    let base = s.base;
-    let fill = s.fill;
     if s.rows <= r {
         return false;
     }
@@ -260,8 +236,8 @@ fn shows_row(
     if builder::all_blocks(s) <= k {
         return false;
     }
-    let start = builder::at_or(starts, blocks, base, k);
-    let size = builder::at_or(lens, blocks, fill, k);
+    let start = builder::at_or(starts, s.blocks, s.base, k);
+    let size = builder::at_or(lens, s.blocks, s.fill, k);
     if !column::in_data(bytes, start, size) {
         return false;
     }
@@ -279,10 +255,7 @@ pub fn next_place(n: usize, p: usize) -> usize
     requires { p < n }
     ensures { (result ≡ after n p) × (result < n) }
 {
-    if p + 1 == n {
-        return 0;
-    }
-    p + 1
+    if p + 1 == n { 0 } else { p + 1 }
 }
 
 pub fn does_merge(m: Merging, n: usize) -> bool
@@ -295,7 +268,7 @@ pub fn does_merge(m: Merging, n: usize) -> bool
     }
 }
 
-// What the merge table answers for x, which is long.
+// What the merge table answers for x, which is long. An empty place is a 0 and no None: C lends the table.
 fn find(
     s: State,
     views: &[u8],
@@ -309,8 +282,7 @@ fn find(
     ensures { result ≡ found_by s.merging places.now (shows_row s (bare views.now bytes.now starts.now
         lens.now) x.now) x.now }
 {
-    let merging = s.merging;
-    if !does_merge(merging, x.len()) {
+    if !does_merge(s.merging, x.len()) {
         return Found::Full;
     }
     let n = places.len();
@@ -318,8 +290,7 @@ fn find(
         return Found::Full;
     }
     let mut p = (hash::hash(x) % (n as u64)) as usize;
-    let mut left = n;
-    while 0 < left {
+    for _ in 0..n {
         let e = places[p] as usize;
         if e == 0 {
             return Found::Free(p);
@@ -328,7 +299,6 @@ fn find(
             return Found::Row(e - 1);
         }
         p = next_place(n, p);
-        left -= 1;
     }
     Found::Full
 }
@@ -336,20 +306,16 @@ fn find(
 pub fn is_row(f: Found) -> bool
     ensures { result ≡ is_row f }
 {
-    match f {
-        Found::Row(_) => true,
-        Found::Free(_) => false,
-        Found::Full => false,
-    }
+    matches!(f, Found::Row(_))
 }
 
+// 0 where no row was found, as the definition `row_of` says, under `put_found`: who calls this asks `is_row` first.
 pub fn row_of(f: Found) -> usize
     ensures { result ≡ row_of f }
 {
     match f {
         Found::Row(r) => r,
-        Found::Free(_) => 0,
-        Found::Full => 0,
+        Found::Free(_) | Found::Full => 0,
     }
 }
 
@@ -358,12 +324,8 @@ pub fn enter(f: Found, places: &mut [u32], row: usize)
     requires { (row < row_limit) × ((p : ℕ) → f ≡ Found.Free p → p < length places.old) }
     ensures { places.new ≡ entered f (suc row) places.old }
 {
-    match f {
-        Found::Row(_) => {}
-        Found::Free(p) => {
-            places[p] = (row + 1) as u32;
-        }
-        Found::Full => {}
+    if let Found::Free(p) = f {
+        places[p] = (row + 1) as u32;
     }
 }
 
@@ -385,22 +347,13 @@ fn add_long(
 {
     let rows = s.rows;
     let n = x.len();
-    let f = find(
-        s,
-        &views[..],
-        &bytes[..],
-        &starts[..],
-        &lens[..],
-        &places[..],
-        x,
-    );
-    if is_row(f) {
-        copy_view(views, row_of(f), rows);
+    let f = find(s, views, bytes, starts, lens, places, x);
+    if let Found::Row(r) = f {
+        copy_view(views, r, rows);
         null_bits::put_bit(nulls, rows, true);
-        let t = builder::row_more(s, true);
         return Answer {
-            why: Why::Accepted,
-            state: t,
+            why: Ok(()),
+            state: builder::row_more(s, true),
         };
     }
     let w = why_lay(
@@ -409,21 +362,23 @@ fn add_long(
         builder::bytes_room(bytes.len()),
         n,
     );
-    if !bounds::is_accepted(w) {
+    if w.is_err() {
         return Answer { why: w, state: s };
     }
     enter(f, places, rows);
     let t = make_room(s, starts, lens, n);
-    let block = t.blocks;
-    let base = t.base;
-    let fill = t.fill;
-    builder::lay(bytes, base + fill, x);
-    views::long_view(views, views::VIEW_SIZE * rows, x, block as u32, fill as u32);
+    builder::lay(bytes, t.base + t.fill, x);
+    views::long_view(
+        views,
+        views::VIEW_SIZE * rows,
+        x,
+        t.blocks as u32,
+        t.fill as u32,
+    );
     null_bits::put_bit(nulls, rows, true);
-    let u = stored(t, n);
     Answer {
-        why: Why::Accepted,
-        state: u,
+        why: Ok(()),
+        state: stored(t, n),
     }
 }
 
@@ -443,27 +398,23 @@ fn add_one(
         views.old bytes.old starts.old lens.old nulls.old places.old
         result views.new bytes.new starts.new lens.new nulls.new places.new }
 {
-    let rows = s.rows;
     if x.len() <= views::SHORT_MOST {
-        views::short_view(views, views::VIEW_SIZE * rows, x);
-        null_bits::put_bit(nulls, rows, true);
-        let t = builder::row_more(s, true);
-        return Answer {
-            why: Why::Accepted,
-            state: t,
-        };
+        views::short_view(views, views::VIEW_SIZE * s.rows, x);
+        null_bits::put_bit(nulls, s.rows, true);
+        Answer {
+            why: Ok(()),
+            state: builder::row_more(s, true),
+        }
+    } else {
+        add_long(s, views, bytes, starts, lens, nulls, places, x)
     }
-    add_long(s, views, bytes, starts, lens, nulls, places, x)
 }
 
 // Whether a value is short and stands in a slice that goes on for twelve bytes from where it begins.
 fn is_short_in(n: usize, left: usize) -> bool
     ensures { result ≡ leb n short_most && leb short_most left }
 {
-    if views::SHORT_MOST < n {
-        return false;
-    }
-    views::SHORT_MOST <= left
+    n <= views::SHORT_MOST && views::SHORT_MOST <= left
 }
 
 // The bytes of a slice from `a` to `e` are added once, where a row has room: what a batch over one slice calls for each.
@@ -485,18 +436,17 @@ pub fn add_part(
         views.old bytes.old starts.old lens.old nulls.old places.old
         result views.new bytes.new starts.new lens.new nulls.new places.new }
 {
-    let rows = s.rows;
     let n = e - a;
     if is_short_in(n, all.len() - a) {
-        views::short_view_in(views, views::VIEW_SIZE * rows, all, a, n);
-        null_bits::put_bit(nulls, rows, true);
-        let t = builder::row_more(s, true);
-        return Answer {
-            why: Why::Accepted,
-            state: t,
-        };
+        views::short_view_in(views, views::VIEW_SIZE * s.rows, all, a, n);
+        null_bits::put_bit(nulls, s.rows, true);
+        Answer {
+            why: Ok(()),
+            state: builder::row_more(s, true),
+        }
+    } else {
+        add_one(s, views, bytes, starts, lens, nulls, places, &all[a..e])
     }
-    add_one(s, views, bytes, starts, lens, nulls, places, &all[a..e])
 }
 
 // The view of row `from` copied to each of the n rows from `to` on.
@@ -505,12 +455,10 @@ pub fn copy_rows(views: &mut [u8], from: usize, to: usize, n: usize)
     ensures { views.new ≡ put_copies views.old to (view_at views.old from) n }
 {
     let p = views::VIEW_SIZE * from;
-    let lo = words::le64(&views[..], p);
-    let hi = words::le64(&views[..], p + 8);
-    let mut k = 0;
-    while k < n {
+    let lo = words::le64(views, p);
+    let hi = words::le64(views, p + 8);
+    for k in 0..n {
         put_words(views, to + k, lo, hi);
-        k += 1;
     }
 }
 
@@ -519,9 +467,10 @@ pub fn rows_more(s: State, n: usize) -> State
     requires { s.rows + n ≤ row_limit }
     ensures { result ≡ rowed_by n s }
 {
-    let mut t = s;
-    t.rows = s.rows + n;
-    t
+    State {
+        rows: s.rows + n,
+        ..s
+    }
 }
 
 // A value is added n times: the work.
@@ -540,38 +489,33 @@ fn value_call(
         views.old bytes.old starts.old lens.old nulls.old places.old
         result views.new bytes.new starts.new lens.new nulls.new places.new }
 {
-    let merging = s.merging;
     let rows = s.rows;
-    let room = builder::rows_room(merging, views.len(), nulls.len(), places.len());
     let w = why_first(
         s,
-        room,
+        builder::rows_room(s.merging, views.len(), nulls.len(), places.len()),
         builder::blocks_room(starts.len(), lens.len()),
         builder::bytes_room(bytes.len()),
         x,
         n,
     );
-    if !bounds::is_accepted(w) {
+    if w.is_err() {
         return Answer { why: w, state: s };
     }
     if n == 0 {
         return Answer {
-            why: Why::Accepted,
+            why: Ok(()),
             state: s,
         };
     }
     let r = add_one(s, views, bytes, starts, lens, nulls, places, x);
-    let why = r.why;
-    let t = r.state;
-    if !bounds::is_accepted(why) {
-        return Answer { why, state: t };
+    if r.why.is_err() {
+        return r;
     }
     copy_rows(views, rows, rows + 1, n - 1);
     null_bits::runs::put_run(nulls, rows + 1, n - 1, true);
-    let u = rows_more(t, n - 1);
     Answer {
-        why: Why::Accepted,
-        state: u,
+        why: Ok(()),
+        state: rows_more(r.state, n - 1),
     }
 }
 
@@ -590,16 +534,15 @@ fn one_call(
         views.old bytes.old starts.old lens.old nulls.old places.old
         result views.new bytes.new starts.new lens.new nulls.new places.new }
 {
-    let merging = s.merging;
     let w = why_first(
         s,
-        builder::rows_room(merging, views.len(), nulls.len(), places.len()),
+        builder::rows_room(s.merging, views.len(), nulls.len(), places.len()),
         builder::blocks_room(starts.len(), lens.len()),
         builder::bytes_room(bytes.len()),
         x,
         1,
     );
-    if !bounds::is_accepted(w) {
+    if w.is_err() {
         return Answer { why: w, state: s };
     }
     add_one(s, views, bytes, starts, lens, nulls, places, x)

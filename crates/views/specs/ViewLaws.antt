@@ -1,5 +1,5 @@
 -- What the fields of a made view say, the fields of a row's view as words of all views, and a row's view stored. Assumes nothing.
-use Rattle.std.specs.Prelude.{◌≡◌, Bool, take, drop}
+use Rattle.std.specs.Prelude.{◌≡◌, Bool, take, drop, Ok, Err}
 use Rattle.std.proofs.Math.Path.{refl}
 use Rattle.std.proofs.Common.{sym, ap, ◌∙◌, add-zero, zero-add, suc-add, arith, lt-ltb, le-ltb, le-leb, drop_of_length-le, length-append, take_at, take-take}
 use mathlib.Core.List.{List, [], ◌∷◌, ◌++◌, append_assoc, append-nil}
@@ -13,9 +13,7 @@ use Rattle.basis.specs.Pick.{pick}
 use Rattle.words.specs.Words.{word_at, enc, pad}
 use Rattle.words.specs.ListLaws.{length-enc, dec-enc, length-pad, take-pad, take-length-pad, word-dec, word-part}
 use Rattle.bounds.specs.Bounds.{byte_limit}
-use Rattle.bounds.specs.Refusals.{refuse, if_accepted}
-use Rattle.bounds.specs.declared.Why.{Why}
-use Rattle.bounds.specs.declared.Why.TheVariants.{Accepted, Refused}
+use Rattle.bounds.specs.Refusals.{refuse, if_accepted, accepted, Why}
 use Rattle.bounds.specs.declared.Refusal.TheVariants.{TooLong}
 use Rattle.views.specs.Made.{view_why, make_of}
 use Rattle.views.specs.View.{view_size, short_most, is_short, length_of, body_of, prefix_of, block_of, offset_of, short_view, long_view, make_view, zero_view, view_at}
@@ -190,11 +188,11 @@ view-whole d v h g =
 -- the call that makes one
 
 module _ (x : List ℕ) (b o : ℕ) where
-  pub made-accepted : length x ≤ byte_limit → make_of x b o ≡ record { why = Accepted; view = make_view x b o }
+  pub made-accepted : length x ≤ byte_limit → make_of x b o ≡ record { why = accepted; view = make_view x b o }
   unfolding make_of view_why refuse
   made-accepted h = rw (le-ltb byte_limit (length x) h)
 
-  pub made-refused : byte_limit < length x → make_of x b o ≡ record { why = Refused TooLong; view = zero_view }
+  pub made-refused : byte_limit < length x → make_of x b o ≡ record { why = Err TooLong; view = zero_view }
   unfolding make_of view_why refuse
   made-refused h = rw (lt-ltb byte_limit (length x) h)
 
@@ -203,14 +201,14 @@ module _ (x : List ℕ) (b o : ℕ) where
   length-made = by (view_why x)
     where
       by : (w : Why) → length (if_accepted w (make_view x b o) zero_view) ≡ view_size
-      by Accepted = length-make x b o
-      by (Refused r) = length-pad 16 []
+      by (Ok _) = length-make x b o
+      by (Err r) = length-pad 16 []
 
   -- the answer's parts
   pub made-why : (make_of x b o).why ≡ view_why x
   unfolding make_of
   made-why = refl
 
-  pub made-view : view_why x ≡ Accepted → (make_of x b o).view ≡ make_view x b o
+  pub made-view : view_why x ≡ accepted → (make_of x b o).view ≡ make_view x b o
   unfolding make_of
   made-view h = rw h

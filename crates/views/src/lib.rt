@@ -7,7 +7,7 @@ ghost use Rattle.words.specs.Words.{word_at};
 ghost use Rattle.views.specs.View.{view_size, short_most, view_at, length_of, block_of, offset_of, short_view, long_view, make_view, zero_view};
 ghost use Rattle.views.specs.Made.{make_of};
 
-use bounds::{Refusal, Why};
+use bounds::Refusal;
 
 // Bytes of a view.
 pub const VIEW_SIZE: usize = 16;
@@ -161,10 +161,10 @@ pub fn put_view(b: &mut [u8], o: usize, v: &[u8], block: u32, offset: u32)
     }
 }
 
-// A view beside why it wasn't made; refused, its bytes are zeros.
+// A view beside why it wasn't made; refused, its bytes are zeros. So it is no Result: `make_of` says them, and `length-made` their number.
 #[derive(Clone, Copy)]
 pub struct Made {
-    pub why: Why,
+    pub why: Result<(), Refusal>,
     pub view: [u8; 16],
 }
 
@@ -175,13 +175,10 @@ pub fn make_view(v: &[u8], block: u32, offset: u32) -> Made
     let mut view = [0; 16];
     if bounds::BYTE_LIMIT < v.len() {
         return Made {
-            why: Why::Refused(Refusal::TooLong),
+            why: Err(Refusal::TooLong),
             view,
         };
     }
     put_view(&mut view, 0, v, block, offset);
-    Made {
-        why: Why::Accepted,
-        view,
-    }
+    Made { why: Ok(()), view }
 }

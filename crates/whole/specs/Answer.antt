@@ -1,13 +1,11 @@
 -- The program's answer: the bytes that it writes, of the bytes that it reads. Assumes nothing.
-use Rattle.std.specs.Prelude.{Bool, true, false, List, [], ◌∷◌, ◌++◌, map, ℕ, zero, suc, ◌+◌, ◌-◌, leb, ltb, eqb, length, take, drop}
+use Rattle.bounds.specs.declared.Refusal.{Refusal}
+use Rattle.std.specs.Prelude.{Bool, true, false, List, [], ◌∷◌, ◌++◌, map, ℕ, zero, suc, ◌+◌, ◌-◌, leb, ltb, eqb, length, take, drop, Result}
+use Rattle.std.specs.Result.{result_unwrap_or}
 use Rattle.basis.specs.Pick.{pick}
 use Rattle.views.specs.View.{is_short}
 use Rattle.column.specs.declared.Column.{Column}
 use Rattle.column.specs.Lent.{Lent}
-use Rattle.reading.specs.declared.Number.{Number}
-use Rattle.reading.specs.declared.Number.TheVariants.{Is, Refused}
-use Rattle.reading.specs.declared.Bit.{Bit}
-use Rattle.reading.specs.declared.Bit.TheVariants as bit
 use Rattle.reading.specs.Reading.{bit_of, value_at, null_run, total_bytes_len, total_buffer_bytes_used}
 use Rattle.listing.specs.Text.{row_line, gap_line, opening, closing, refused_line}
 use Rattle.shelf.specs.declared.Line.{Line}
@@ -80,10 +78,8 @@ shelf_answer s = pick (ltb input_most (length s)) (refused_line 0) (answer_lines
 -- ---- the same of a column
 
 -- a row whose bit is refused has no value
-abbrev pub bit_valid : Bit → Bool
-bit_valid bit.Valid = true
-bit_valid bit.Null = false
-bit_valid (bit.Refused r) = false
+abbrev pub bit_valid : Result Bool Refusal → Bool
+bit_valid v = result_unwrap_or v false
 
 abbrev pub shelf_row_at : Lent → Column → ℕ → ShelfRow
 shelf_row_at l c r = row (bit_valid (bit_of l c r)) (value_at l c r)
@@ -95,9 +91,8 @@ rows_from l c r (suc n) = shelf_row_at l c r ∷ rows_from l c (suc r) n
 abbrev pub shelf_rows : Lent → Column → List ShelfRow
 shelf_rows l c = rows_from l c 0 c.rows
 
-abbrev pub number_is : Number → ℕ
-number_is (Is n) = n
-number_is (Refused r) = 0
+abbrev pub number_is : Result ℕ Refusal → ℕ
+number_is n = result_unwrap_or n 0
 
 abbrev pub closing_of : Lent → Column → List ℕ
 closing_of l c = closing c.rows (number_is (null_run l c 0 c.rows)) (number_is (total_bytes_len l c)) (number_is (total_buffer_bytes_used l c)) c.blocks

@@ -1,5 +1,5 @@
 -- The pieces that the program writes, one after the other, are the whole. Assumes nothing.
-use Rattle.std.specs.Prelude.{◌≡◌, Bool, not, ltb, length, take, drop, get_or}
+use Rattle.std.specs.Prelude.{◌≡◌, Bool, not, ltb, length, take, drop, get_or, Err}
 use Rattle.std.proofs.Math.Path.{refl, sym, ap}
 use Rattle.std.proofs.Common.{◌∙◌, zero-add, drop-cons}
 use Rattle.std.proofs.Math.Bool.{true, false}
@@ -13,9 +13,9 @@ use Rattle.std.proofs.Math.ListN.{get_or-eq_default}
 use Rattle.std.proofs.Math.Seq.{take-length}
 use Rattle.basis.specs.Pick.{pick}
 use Rattle.bounds.specs.Refusals.{refuse, if_accepted}
+use Rattle.bounds.specs.Refusals.{answered as answer_by}
 use Rattle.bounds.specs.declared.Refusal.TheVariants as refusal
 use Rattle.bounds.specs.declared.Refusal.TheVariants.{Fit}
-use Rattle.bounds.specs.declared.Why.TheVariants.{Refused}
 use Rattle.listing.specs.Text.{row_line, gap_line, opening, closing, refused_line}
 use Rattle.shelf.specs.declared.Item.{Item}
 use Rattle.shelf.specs.declared.Item.TheVariants as item
@@ -26,7 +26,7 @@ use Rattle.shelf.specs.Lines.{lines, first_bad_line}
 use Rattle.column.specs.declared.Column.{Column}
 use Rattle.column.specs.Lent.{Lent, fits}
 use Rattle.column.specs.Meaning.{shown_at, row_valid}
-use Rattle.reading.specs.Reading.{why_run, why_row, why_value, bit_when, bit_of, value_at, null_run, total_bytes_len, total_buffer_bytes_used}
+use Rattle.reading.specs.Reading.{why_run, why_row, why_value, bit_of, value_at, null_run, total_bytes_len, total_buffer_bytes_used}
 
 -- ---- the rows and the gap, item by item
 
@@ -123,8 +123,8 @@ module _ (l : Lent) (c : Column) where
   unfolding bit_of why_row why_run value_at why_value refuse
   no-row r h = rw (lt-ltb c.rows (r + 1) (omega arith), le-leb c.rows r h) (go (fits l c))
     where
-      go : (t : Bool) → no_row ≡ row (bit_valid (bit_when (refuse Fit (not t) (Refused refusal.Row)) (row_valid l c r)))
-          (if_accepted (refuse Fit (not t) (Refused refusal.Row)) (shown_at l c r) [])
+      go : (t : Bool) → no_row ≡ row (bit_valid (answer_by (refuse Fit (not t) (Err refusal.Row)) (row_valid l c r)))
+          (if_accepted (refuse Fit (not t) (Err refusal.Row)) (shown_at l c r) [])
       go true = refl
       go false = refl
 

@@ -1,5 +1,6 @@
 -- Each piece, with what is left after it, is what was left. Assumes nothing.
-use Rattle.std.specs.Prelude.{◌≡◌, refl, Bool, true, false, leb, take, get_or}
+use Rattle.bounds.specs.declared.Refusal.{Refusal}
+use Rattle.std.specs.Prelude.{◌≡◌, refl, Bool, true, false, leb, take, get_or, Result}
 use Rattle.std.proofs.Common.{sym, ap, ◌∙◌, add-zero, leb-true, lt-ltb, le-ltb, length-append}
 use Rattle.std.proofs.Math.Path.{subst, transport}
 use mathlib.Core.List.{List, [], ◌∷◌, ◌++◌, append_assoc, append-nil}
@@ -10,7 +11,6 @@ use Rattle.std.proofs.Math.ListN.{length}
 use Rattle.basis.specs.Pick.{pick}
 use Rattle.column.specs.declared.Column.{Column}
 use Rattle.column.specs.Lent.{Lent}
-use Rattle.reading.specs.declared.Bit.{Bit}
 use Rattle.reading.specs.Reading.{bit_of, value_at, null_run, total_bytes_len, total_buffer_bytes_used}
 use Rattle.listing.specs.Text.{closing, digits, decimal, bytes_text, text_from, item_text, row_open, row_close, row_null, row_line, gap_line, opening, refused_line}
 use Rattle.listing.specs.Put.{HoldsText, Rest}
@@ -177,12 +177,12 @@ module _ (l : Lent) (c : Column) {out : List ℕ} {n : ℕ} where
     unfolding gap_line
     wrote-gap m e p = wrote l c _ p (Line (k + 1)) (rest-gap l c k h m e) (omega arith)
 
-    pub wrote-open : (r : ℕ) {b : Bit} → item.Row r ≡ item_at c.rows k → b ≡ bit_of l c r → bit_valid b ≡ true → HoldsText out n row_open
+    pub wrote-open : (r : ℕ) {b : Result Bool Refusal} → item.Row r ≡ item_at c.rows k → b ≡ bit_of l c r → bit_valid b ≡ true → HoldsText out n row_open
         → WrotePiece l c (lines_from l c k) out (piece (Part k 0) n)
     unfolding row_open
     wrote-open r e f g p = wrote l c _ p (Part k 0) (rest-open l c k h r e (ap bit_valid (sym f) ∙ g)) (omega arith)
 
-    pub wrote-null : (r : ℕ) {b : Bit} → item.Row r ≡ item_at c.rows k → b ≡ bit_of l c r → bit_valid b ≡ false → HoldsText out n row_null
+    pub wrote-null : (r : ℕ) {b : Result Bool Refusal} → item.Row r ≡ item_at c.rows k → b ≡ bit_of l c r → bit_valid b ≡ false → HoldsText out n row_null
         → WrotePiece l c (lines_from l c k) out (piece (Line (k + 1)) n)
     unfolding row_null
     wrote-null r e f g p = wrote l c _ p (Line (k + 1)) (rest-null l c k h r e (ap bit_valid (sym f) ∙ g)) (omega arith)

@@ -9,57 +9,41 @@ use native.Mathlib.Omega.{arith}
 use borrow.Author.Rules.{rules}
 use Rattle.appending.proofs.append_block.Goals as goal
 
-pub returns-then-not-is_accepted : goal.returns-then-not-is_accepted
-returns-then-not-is_accepted c = does-not-block _ _ _ _ _ _ _ _ _ c.why_block-w.ensures (sym c.is_accepted.ensures ∙ c.if-not-is_accepted.true)
+pub returns-then-is_err : goal.returns-then-is_err
+returns-then-is_err c = does-not-block _ _ _ _ _ _ _ _ _ c.why_block-why.ensures c.if-is_err.ensures.negation
 
 pub put_record-requires : goal.put_record-requires
 put_record-requires c =
-    let a = c.args in
-    let j = blocked a.s a.views.now a.bytes.now a.starts.now a.lens.now a.nulls.now a.places.now a.x.now
-    (ap is_accepted (sym c.why_block-w.ensures) ∙ (sym c.is_accepted.ensures
-    ∙ c.if-not-is_accepted.false)) in
+    let j = blocked _ _ _ _ _ _ _ _ (ap is_accepted (sym c.why_block-why.ensures) ∙ c.if-is_err.ensures.negation) in
     let f = j.fit in
     (f.starts, f.lens)
 
 pub close-t-requires : goal.close-t-requires
 close-t-requires c =
-    let a = c.args in
-    let j = blocked a.s a.views.now a.bytes.now a.starts.now a.lens.now a.nulls.now a.places.now a.x.now
-    (ap is_accepted (sym c.why_block-w.ensures)
-    ∙ (sym c.is_accepted.ensures
-    ∙ c.if-not-is_accepted.false)) in
+    let j = blocked _ _ _ _ _ _ _ _ (ap is_accepted (sym c.why_block-why.ensures) ∙ c.if-is_err.ensures.negation) in
     let f = j.fit in
     (omega (arith, f.blocks, block-limit-small), omega (arith, f.small, byte-limit-small))
 
 pub put_block-requires : goal.put_block-requires
 unfolding closed
 put_block-requires c =
-    let a = c.args in
-    let j = blocked a.s a.views.now a.bytes.now a.starts.now a.lens.now a.nulls.now a.places.now a.x.now
-    (ap is_accepted (sym c.why_block-w.ensures) ∙ (sym c.is_accepted.ensures
-    ∙ c.if-not-is_accepted.false)) in
-    let f = j.fit in
+    let j = blocked _ _ _ _ _ _ _ _ (ap is_accepted (sym c.why_block-why.ensures) ∙ c.if-is_err.ensures.negation) in
     let b = ap (λ (z : State). z.blocks) c.close-t.ensures in
     let d = ap (λ (z : State). z.base) c.close-t.ensures in
-    let e : length c.put_record.new.starts ≡ length a.starts.now = search rules in
-    let g : length c.put_record.new.lens ≡ length a.lens.now = search rules in
+    let e : length c.put_record.new.starts ≡ length c.args.starts.now = search rules in
+    let g : length c.put_record.new.lens ≡ length c.args.lens.now = search rules in
     (omega (arith, d, j.inside), omega (arith, b, e, j.starts), omega (arith, b, g, j.lens))
 
-pub block_more-u-requires : goal.block_more-u-requires
+pub block_more-requires : goal.block_more-requires
 unfolding closed
-block_more-u-requires c =
-    let a = c.args in
-    let j = blocked a.s a.views.now a.bytes.now a.starts.now a.lens.now a.nulls.now a.places.now a.x.now
-    (ap is_accepted (sym c.why_block-w.ensures)
-    ∙ (sym c.is_accepted.ensures
-    ∙ c.if-not-is_accepted.false)) in
-    let f = j.fit in
+block_more-requires c =
+    let j = blocked _ _ _ _ _ _ _ _ (ap is_accepted (sym c.why_block-why.ensures) ∙ c.if-is_err.ensures.negation) in
     let b = ap (λ (z : State). z.blocks) c.close-t.ensures in
     let d = ap (λ (z : State). z.base) c.close-t.ensures in
     (omega (arith, b, j.limit, block-limit-small), omega (arith, d, j.small, byte-limit-small))
 
 pub returns : goal.returns
 returns c =
-    does-block _ _ _ _ _ _ _ _ _ _ c.why_block-w.ensures (sym c.is_accepted.ensures ∙ c.if-not-is_accepted.false) c.close-t.ensures
-    c.put_record.ensures.0 c.put_record.ensures.1 c.block_more-u.ensures c.put_block.ensures.0 c.put_block.ensures.1
+    does-block _ _ _ _ _ _ _ _ _ _ c.why_block-why.ensures c.if-is_err.ensures.negation c.close-t.ensures
+    c.put_record.ensures.0 c.put_record.ensures.1 c.block_more.ensures c.put_block.ensures.0 c.put_block.ensures.1
     c.put_block.ensures.2

@@ -14,110 +14,61 @@ use native.Mathlib.Omega.{arith}
 use borrow.Author.Rules.{rules}
 use Rattle.appending.proofs.append_column.Goals as goal
 
-pub returns-then-not-is_accepted : goal.returns-then-not-is_accepted
-returns-then-not-is_accepted c = does-no _ _ _ _ _ _ _ _ _ _ c.why_column-w.ensures (sym c.is_accepted.ensures ∙ c.if-not-is_accepted.true)
+pub returns-then-is_err : goal.returns-then-is_err
+returns-then-is_err c = does-no _ _ _ _ _ _ _ _ _ _ c.why_column-why.ensures c.if-is_err.ensures.negation
 
 pub put_record-requires : goal.put_record-requires
 put_record-requires c =
-    let a = c.args in
-    let k = taken a.s a.views.now a.bytes.now a.starts.now a.lens.now a.nulls.now a.places.now a.srcviews.now
-    a.srcbytes.now a.srcstarts.now a.srclens.now a.srcnulls.now a.c
-    (ap is_accepted (sym c.why_column-w.ensures) ∙ (sym c.is_accepted.ensures
-    ∙ c.if-not-is_accepted.false)) in
+    let k = taken _ _ _ _ _ _ _ _ _ _ _ _ _ (ap is_accepted (sym c.why_column-why.ensures) ∙ c.if-is_err.ensures.negation) in
     let f = k.fit in
     (f.starts, f.lens)
 
 pub close-t-requires : goal.close-t-requires
 close-t-requires c =
-    let a = c.args in
-    let k = taken a.s a.views.now a.bytes.now a.starts.now a.lens.now a.nulls.now a.places.now a.srcviews.now
-    a.srcbytes.now a.srcstarts.now a.srclens.now a.srcnulls.now a.c
-    (ap is_accepted (sym c.why_column-w.ensures)
-    ∙ (sym c.is_accepted.ensures
-    ∙ c.if-not-is_accepted.false)) in
+    let k = taken _ _ _ _ _ _ _ _ _ _ _ _ _ (ap is_accepted (sym c.why_column-why.ensures) ∙ c.if-is_err.ensures.negation) in
     let f = k.fit in
     (omega (arith, f.blocks, block-limit-small), omega (arith, f.small, byte-limit-small))
 
 pub put_blocks-end-requires : goal.put_blocks-end-requires
 put_blocks-end-requires c =
     let a = c.args in
-    let k = taken a.s a.views.now a.bytes.now a.starts.now a.lens.now a.nulls.now a.places.now a.srcviews.now
-    a.srcbytes.now a.srcstarts.now a.srclens.now a.srcnulls.now a.c
-    (ap is_accepted (sym c.why_column-w.ensures) ∙ (sym c.is_accepted.ensures
-    ∙ c.if-not-is_accepted.false)) in
-    let f = k.fit in
+    let k = taken _ _ _ _ _ _ _ _ _ _ _ _ _ (ap is_accepted (sym c.why_column-why.ensures) ∙ c.if-is_err.ensures.negation) in
     let e1 : length c.put_record.new.starts ≡ length a.starts.now = search rules in
     let e2 : length c.put_record.new.lens ≡ length a.lens.now = search rules in
-    taking a.s a.views.now a.bytes.now a.starts.now a.lens.now a.nulls.now a.places.now a.srcviews.now
-    a.srcbytes.now a.srcstarts.now a.srclens.now a.srcnulls.now a.c k _ _ _ _ c.close-t.ensures refl e1 e2
+    taking a.s a.views.now a.bytes.now a.starts.now a.lens.now a.nulls.now a.places.now a.src.views.now
+    a.src.bytes.now a.src.starts.now a.src.lens.now a.src.nulls.now a.c k _ _ _ _ c.close-t.ensures refl e1 e2
 
 pub put_rows-requires : goal.put_rows-requires
 unfolding closed
 put_rows-requires c =
-    let a = c.args in
-    let k = taken a.s a.views.now a.bytes.now a.starts.now a.lens.now a.nulls.now a.places.now a.srcviews.now
-    a.srcbytes.now a.srcstarts.now a.srclens.now a.srcnulls.now a.c
-    (ap is_accepted (sym c.why_column-w.ensures)
-    ∙ (sym c.is_accepted.ensures
-    ∙ c.if-not-is_accepted.false)) in
-    let f = k.fit in
+    let k = taken _ _ _ _ _ _ _ _ _ _ _ _ _ (ap is_accepted (sym c.why_column-why.ensures) ∙ c.if-is_err.ensures.negation) in
     let b = ap (λ (z : State). z.blocks) c.close-t.ensures in
     (k.views, k.source.views, omega (arith, b, k.limit, block-limit-small))
 
 pub copy_column-requires : goal.copy_column-requires
 copy_column-requires c =
-    let a = c.args in
-    let k = taken a.s a.views.now a.bytes.now a.starts.now a.lens.now a.nulls.now a.places.now a.srcviews.now
-    a.srcbytes.now a.srcstarts.now a.srclens.now a.srcnulls.now a.c
-    (ap is_accepted (sym c.why_column-w.ensures)
-    ∙ (sym c.is_accepted.ensures
-    ∙ c.if-not-is_accepted.false)) in
-    let f = k.fit in
+    let k = taken _ _ _ _ _ _ _ _ _ _ _ _ _ (ap is_accepted (sym c.why_column-why.ensures) ∙ c.if-is_err.ensures.negation) in
     (k.bits, omega (arith, k.rows, row-limit-small), k.source.bits, omega (arith, k.source.rows, row-limit-small))
 
-pub count_nulls-requires : goal.count_nulls-requires
-count_nulls-requires c =
-    let a = c.args in
-    let k = taken a.s a.views.now a.bytes.now a.starts.now a.lens.now a.nulls.now a.places.now a.srcviews.now
-    a.srcbytes.now a.srcstarts.now a.srclens.now a.srcnulls.now a.c (ap is_accepted (sym c.why_column-w.ensures)
-    ∙ (sym c.is_accepted.ensures ∙ c.if-not-is_accepted.false)) in
-    let f = k.fit in
+pub count_nulls-added-requires : goal.count_nulls-added-requires
+count_nulls-added-requires c =
+    let k = taken _ _ _ _ _ _ _ _ _ _ _ _ _ (ap is_accepted (sym c.why_column-why.ensures) ∙ c.if-is_err.ensures.negation) in
     k.source.bits
 
-pub column_more-u-requires : goal.column_more-u-requires
+pub column_more-requires : goal.column_more-requires
 unfolding closed
-column_more-u-requires c =
-    let a = c.args in
-    let k = taken a.s a.views.now a.bytes.now a.starts.now a.lens.now a.nulls.now a.places.now a.srcviews.now
-    a.srcbytes.now a.srcstarts.now a.srclens.now a.srcnulls.now a.c
-    (ap is_accepted (sym c.why_column-w.ensures)
-    ∙ (sym c.is_accepted.ensures
-    ∙ c.if-not-is_accepted.false)) in
-    let f = k.fit in
+column_more-requires c =
+    let k = taken _ _ _ _ _ _ _ _ _ _ _ _ _ (ap is_accepted (sym c.why_column-why.ensures) ∙ c.if-is_err.ensures.negation) in
     let b = ap (λ (z : State). z.blocks) c.close-t.ensures in
     let r = ap (λ (z : State). z.rows) c.close-t.ensures in
     (omega (arith, r, k.rows), omega (arith, b, k.limit))
 
-pub shape_of-starts : goal.shape_of-starts
-shape_of-starts c =
-    let a = c.args in
-    let l1 : length c.put_blocks-end.new.starts ≡ length c.put_record.new.starts = c.put_blocks-end.auto.starts in
-    let l2 : length c.put_record.new.starts ≡ length a.starts.now = c.put_record.auto.starts in
-    l1 ∙ l2
-
-pub shape_of-lens : goal.shape_of-lens
-shape_of-lens c =
-    let a = c.args in
-    let l1 : length c.put_blocks-end.new.lens ≡ length c.put_record.new.lens = c.put_blocks-end.auto.lens in
-    let l2 : length c.put_record.new.lens ≡ length a.lens.now = c.put_record.auto.lens in
-    l1 ∙ l2
-
 pub returns : goal.returns
 returns c =
     let a = c.args in
-    does-column a.s a.views.now a.bytes.now a.starts.now a.lens.now a.nulls.now a.places.now a.srcviews.now
-    a.srcbytes.now a.srcstarts.now a.srclens.now a.srcnulls.now a.c _ _ c.why_column-w.ensures
-    (sym c.is_accepted.ensures ∙ c.if-not-is_accepted.false) c.close-t.ensures c.put_record.ensures.0
+    does-column a.s a.views.now a.bytes.now a.starts.now a.lens.now a.nulls.now a.places.now a.src.views.now
+    a.src.bytes.now a.src.starts.now a.src.lens.now a.src.nulls.now a.c _ _ c.why_column-why.ensures
+    c.if-is_err.ensures.negation c.close-t.ensures c.put_record.ensures.0
     c.put_record.ensures.1 c.put_blocks-end.ensures.0 c.put_blocks-end.ensures.1 c.put_blocks-end.ensures.2
     c.put_blocks-end.ensures.3 c.put_rows.ensures c.copy_column.ensures
-    (c.flag-some.ensures ∙ ap (λ (z : ℕ). pick (eqb z 0) a.s.nulled true) c.count_nulls.ensures) c.column_more-u.ensures
+    (c.flag-some.ensures ∙ ap (λ (z : ℕ). pick (eqb z 0) a.s.nulled true) c.count_nulls-added.ensures) c.column_more.ensures

@@ -16,30 +16,8 @@ pub loop-k-init : goal.loop-k-init
 unfolding end_from put_data put_starts put_lens
 loop-k-init c = (omega arith, refl, refl, refl, refl, refl, refl, refl)
 
-pub bounds-srcstarts-k : goal.bounds-srcstarts-k
-bounds-srcstarts-k c =
-    let a = c.args in
-    let bs = a.src.now in
-    let ss = a.srcstarts.now in
-    let ns = a.srclens.now in
-    let k = c.loop-k.k in
-    let p = c.requires in
-    let h = c.loop-k-test.true in
-    omega (arith, p.listed)
-
-pub bounds-srclens-k : goal.bounds-srclens-k
-bounds-srclens-k c =
-    let a = c.args in
-    let bs = a.src.now in
-    let ss = a.srcstarts.now in
-    let ns = a.srclens.now in
-    let k = c.loop-k.k in
-    let p = c.requires in
-    let h = c.loop-k-test.true in
-    omega (arith, p.listed)
-
-pub overflow_add-e : goal.overflow_add-e
-overflow_add-e c =
+pub overflow_add-a : goal.overflow_add-a
+overflow_add-a c =
     let a = c.args in
     let bs = a.src.now in
     let ss = a.srcstarts.now in
@@ -49,17 +27,6 @@ overflow_add-e c =
     let h = c.loop-k-test.true in
     let b = block-end bs ss ns a.n p.listed p.lie k h in
     omega (arith, b, byte-limit-small)
-
-pub overflow_add-first : goal.overflow_add-first
-overflow_add-first c =
-    let a = c.args in
-    let bs = a.src.now in
-    let ss = a.srcstarts.now in
-    let ns = a.srclens.now in
-    let k = c.loop-k.k in
-    let p = c.requires in
-    let h = c.loop-k-test.true in
-    omega (arith, p.few)
 
 pub slice_bounds-put_block-end : goal.slice_bounds-put_block-end
 slice_bounds-put_block-end c =
@@ -90,34 +57,6 @@ put_block-requires c =
     let q = ap length bi ∙ bl in
     (omega (arith, q, ei, tb, v, p.inside), omega (arith, v, p.starts-room), omega (arith, v, p.lens-room))
 
-pub overflow_add-at : goal.overflow_add-at
-overflow_add-at c =
-    let a = c.args in
-    let bs = a.src.now in
-    let ss = a.srcstarts.now in
-    let ns = a.srclens.now in
-    let k = c.loop-k.k in
-    let p = c.requires in
-    let h = c.loop-k-test.true in
-    let v = c.loop-k.invariant in
-    let ei = end_is bs ss ns a.n p.listed p.lie k a.base v.0 in
-    let tb = total-below bs ss ns k a.n h in
-    omega (arith, ei, tb, v, p.small)
-
-pub overflow_add-k : goal.overflow_add-k
-overflow_add-k c =
-    let a = c.args in
-    let bs = a.src.now in
-    let ss = a.srcstarts.now in
-    let ns = a.srclens.now in
-    let k = c.loop-k.k in
-    let p = c.requires in
-    let h = c.loop-k-test.true in
-    omega (arith, p.few)
-
-pub loop-k-smaller : goal.loop-k-smaller
-loop-k-smaller c = omega arith
-
 pub loop-k-preserved : goal.loop-k-preserved
 loop-k-preserved c =
     let a = c.args in
@@ -128,8 +67,6 @@ loop-k-preserved c =
     let p = c.requires in
     let h = c.loop-k-test.true in
     let v = c.loop-k.invariant in
-    let ei = end_is bs ss ns a.n p.listed p.lie k a.base v.0 in
-    let tb = total-below bs ss ns k a.n h in
     let bi = block-is bs ss ns a.n p.listed p.lie k h in
     let bl = block-length bs ss ns a.n p.listed p.lie k h in
     let f = block_bytes (bare [] bs ss ns) in
@@ -146,18 +83,3 @@ loop-k-preserved c =
       e.1 ∙ (λ i. set (v.6 i) (a.first + k) (v.4 i)) ∙ starts_more f k a.starts.now a.first a.base,
       e.2 ∙ (λ i. set (v.7 i) (a.first + k) (length (bi i))) ∙ lens-more f k a.lens.now a.first,
     )
-
-pub shape_of-bytes : goal.shape_of-bytes
-shape_of-bytes c = c.loop-k.invariant.1
-
-pub shape_of-starts : goal.shape_of-starts
-shape_of-starts c = c.loop-k.invariant.2
-
-pub shape_of-lens : goal.shape_of-lens
-shape_of-lens c = c.loop-k.invariant.3
-
-pub returns : goal.returns
-returns c =
-    let e : c.loop-k.k ≡ c.args.n = omega arith in
-    let v = c.loop-k.invariant in
-    rw (← e) (v.4, v.5, v.6, v.7)

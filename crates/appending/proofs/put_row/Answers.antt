@@ -6,14 +6,14 @@ use mathlib.Core.Path.{ap, ◌∙◌}
 use native.Mathlib.Omega.{arith}
 use Rattle.appending.proofs.put_row.Goals as goal
 
-pub returns-then-view_len-le-SHORT_MOST : goal.returns-then-view_len-le-SHORT_MOST
-returns-then-view_len-le-SHORT_MOST c =
+pub returns-else-view_len-gt-SHORT_MOST : goal.returns-else-view_len-gt-SHORT_MOST
+returns-else-view_len-gt-SHORT_MOST c =
     let a = c.args in
     c.copy16.ensures ∙ row-short a.views.now a.src.now a.to a.from a.before
     (omega (arith, c.view_len.ensures.0))
 
-pub returns : goal.returns
-returns c =
+pub returns-then-view_len-gt-SHORT_MOST : goal.returns-then-view_len-gt-SHORT_MOST
+returns-then-view_len-gt-SHORT_MOST c =
     let a = c.args in
     c.put32.ensures ∙ ap (λ (l : List ℕ). put_word l (16 * a.to + 8) (c.view_block-k.result
     + a.before) 4) c.copy16.ensures ∙ row-long a.views.now a.src.now a.to a.from a.before _ c.requires.0 c.requires.1

@@ -15,22 +15,6 @@ pub loop-k-init : goal.loop-k-init
 unfolding put_from
 loop-k-init c = (omega arith, refl, refl)
 
-pub overflow_add-to : goal.overflow_add-to
-overflow_add-to c = omega (arith, c.requires)
-
-pub overflow_add-from : goal.overflow_add-from
-overflow_add-from c = omega (arith, c.requires)
-
-pub put_row-requires : goal.put_row-requires
-put_row-requires c =
-    (omega (arith, c.requires, c.loop-k.invariant), omega (arith, c.requires), c.requires.2)
-
-pub overflow_add-k : goal.overflow_add-k
-overflow_add-k c = omega (arith, c.requires)
-
-pub loop-k-smaller : goal.loop-k-smaller
-loop-k-smaller c = omega arith
-
 pub loop-k-preserved : goal.loop-k-preserved
 loop-k-preserved c =
     let a = c.args in
@@ -42,11 +26,3 @@ loop-k-preserved c =
       c.put_row.ensures ∙ ap (λ (l : List ℕ). paste l (16 * (a.to + k)) (f k) 16)
           c.loop-k.invariant.2 ∙ from_more f a.views.now a.to k,
     )
-
-pub shape_of-views : goal.shape_of-views
-shape_of-views c = c.loop-k.invariant.1
-
-pub returns : goal.returns
-returns c =
-    let e : c.loop-k.k ≡ c.args.n = omega arith in
-    rw (← e) c.loop-k.invariant.2

@@ -9,31 +9,31 @@ use Rattle.appending.proofs.why_view.Goals as goal
 pub returns-then-not-fits_lent : goal.returns-then-not-fits_lent
 returns-then-not-fits_lent c = view-fit _ _ _ _ _ _ _ _ _ _ (sym c.fits_lent.ensures ∙ c.if-not-fits_lent.true)
 
-pub returns-then-blocks-k : goal.returns-then-blocks-k
-returns-then-blocks-k c = view-none _ _ _ _ _ _ _ _ _ _ (sym c.fits_lent.ensures ∙ c.if-not-fits_lent.false) c.if-blocks-k.true
+pub returns-then-s-k : goal.returns-then-s-k
+returns-then-s-k c = view-none _ _ _ _ _ _ _ _ _ _ (sym c.fits_lent.ensures ∙ c.if-not-fits_lent.false) c.if-s-k.true
 
 pub bounds-starts-k : goal.bounds-starts-k
 bounds-starts-k c =
     let a = c.args in
     let f = fits_gives a.s a.views.now a.bytes.now a.starts.now a.lens.now a.nulls.now a.places.now
     (sym c.fits_lent.ensures ∙ c.if-not-fits_lent.false) in
-    omega (arith, f.starts, all-bounds a.s, c.if-blocks-k.false)
+    omega (arith, f.starts, all-bounds a.s, c.if-s-k.false)
 
 pub bounds-lens-k : goal.bounds-lens-k
 bounds-lens-k c =
     let a = c.args in
     let f = fits_gives a.s a.views.now a.bytes.now a.starts.now a.lens.now a.nulls.now a.places.now
     (sym c.fits_lent.ensures ∙ c.if-not-fits_lent.false) in
-    omega (arith, f.lens, all-bounds a.s, c.if-blocks-k.false)
+    omega (arith, f.lens, all-bounds a.s, c.if-s-k.false)
 
 pub returns-then-not-in_data : goal.returns-then-not-in_data
 returns-then-not-in_data c = view-outside _ _ _ _ _ _ _ _ _ _ (sym c.fits_lent.ensures
-    ∙ c.if-not-fits_lent.false) c.if-blocks-k.false
+    ∙ c.if-not-fits_lent.false) c.if-s-k.false
     (sym c.in_data.ensures ∙ c.if-not-in_data.true)
 
 pub returns-then-size-o : goal.returns-then-size-o
 returns-then-size-o c = view-over _ _ _ _ _ _ _ _ _ _ (sym c.fits_lent.ensures
-    ∙ c.if-not-fits_lent.false) c.if-blocks-k.false
+    ∙ c.if-not-fits_lent.false) c.if-s-k.false
     (sym c.in_data.ensures ∙ c.if-not-in_data.false) c.if-size-o.true
 
 pub overflow_add-a : goal.overflow_add-a
@@ -41,8 +41,8 @@ overflow_add-a c =
     let d = in-data-gives _ _ _ (sym c.in_data.ensures ∙ c.if-not-in_data.false) in
     omega (arith, d, byte-limit-small)
 
-pub overflow_add-e : goal.overflow_add-e
-overflow_add-e c =
+pub overflow_add-a-2 : goal.overflow_add-a-2
+overflow_add-a-2 c =
     let d = in-data-gives _ _ _ (sym c.in_data.ensures ∙ c.if-not-in_data.false) in
     omega (arith, d, byte-limit-small)
 
@@ -53,20 +53,20 @@ slice_bounds-of_kind-end c =
 
 pub returns-then-not-of_kind : goal.returns-then-not-of_kind
 returns-then-not-of_kind c =
-    view-kind _ _ _ _ _ _ _ _ _ _ (sym c.fits_lent.ensures ∙ c.if-not-fits_lent.false) c.if-blocks-k.false
+    view-kind _ _ _ _ _ _ _ _ _ _ (sym c.fits_lent.ensures ∙ c.if-not-fits_lent.false) c.if-s-k.false
     (sym c.in_data.ensures ∙ c.if-not-in_data.false)
     c.if-size-o.false _ c.of_kind.ensures (c.if-not-of_kind.true)
 
-pub returns-then-rows_room-rows : goal.returns-then-rows_room-rows
-returns-then-rows_room-rows c =
-    view-full _ _ _ _ _ _ _ _ _ _ (sym c.fits_lent.ensures ∙ c.if-not-fits_lent.false) c.if-blocks-k.false
+pub returns-then-rows_room-s : goal.returns-then-rows_room-s
+returns-then-rows_room-s c =
+    view-full _ _ _ _ _ _ _ _ _ _ (sym c.fits_lent.ensures ∙ c.if-not-fits_lent.false) c.if-s-k.false
     (sym c.in_data.ensures
     ∙ c.if-not-in_data.false) c.if-size-o.false _
-    c.of_kind.ensures _ c.rows_room.ensures (c.if-not-of_kind.false) c.if-rows_room-rows.true
+    c.of_kind.ensures _ c.rows_room.ensures (c.if-not-of_kind.false) c.if-rows_room-s.true
 
 pub returns : goal.returns
 returns c =
-    view-fine _ _ _ _ _ _ _ _ _ _ (sym c.fits_lent.ensures ∙ c.if-not-fits_lent.false) c.if-blocks-k.false
+    view-fine _ _ _ _ _ _ _ _ _ _ (sym c.fits_lent.ensures ∙ c.if-not-fits_lent.false) c.if-s-k.false
     (sym c.in_data.ensures
     ∙ c.if-not-in_data.false) c.if-size-o.false _
-    c.of_kind.ensures _ c.rows_room.ensures (c.if-not-of_kind.false) c.if-rows_room-rows.false
+    c.of_kind.ensures _ c.rows_room.ensures (c.if-not-of_kind.false) c.if-rows_room-s.false

@@ -6,11 +6,11 @@ use Rattle.column.specs.Lent.{lent}
 use Rattle.column.proofs.SpotLaws.{found-reach}
 use Rattle.column.specs.Truth.{reachable_at}
 use Rattle.batches.specs.Batches.{less_rows}
-use Rattle.batches.proofs.Laws.{less_none, less-more, no_rows}
+use Rattle.batches.proofs.Laws.{less_none, less-more, no_rows, one-if, one-at-most}
 use Rattle.batches.proofs.count_less.Goals as goal
 
-pub returns-then-rows-eq0 : goal.returns-then-rows-eq0
-returns-then-rows-eq0 c = no_rows _ _ c.if-rows-eq0.true
+pub returns-then-c-eq0 : goal.returns-then-c-eq0
+returns-then-c-eq0 c = no_rows _ _ c.if-c-eq0.true
 
 pub all_in_data-known-requires : goal.all_in_data-known-requires
 all_in_data-known-requires c = fits-listed _ _ _ _ _ _ c.requires
@@ -21,16 +21,9 @@ spot_of-requires c = (c.requires, omega arith, λ e. sym c.all_in_data-known.ens
 pub loop-k-init : goal.loop-k-init
 loop-k-init c = (
   omega arith,
-  omega arith,
   less_none _ _,
   c.is_reached-good.ensures ∙ found-reach _ _ _ _ _ _ _ c.spot_of.ensures,
 )
-
-pub overflow_sub-rows : goal.overflow_sub-rows
-overflow_sub-rows c = omega arith
-
-pub overflow_add-k : goal.overflow_add-k
-overflow_add-k c = omega arith
 
 pub spot_of-s-requires : goal.spot_of-s-requires
 spot_of-s-requires c = (
@@ -43,32 +36,23 @@ pub is_below-requires : goal.is_below-requires
 is_below-requires c = (
   c.requires,
   omega arith,
-  c.loop-k.invariant.3,
+  c.loop-k.invariant.2,
   c.is_reached-next.ensures ∙ found-reach _ _ _ _ _ _ _ c.spot_of-s.ensures,
 )
 
 pub overflow_add-n : goal.overflow_add-n
 overflow_add-n c =
     let g = fits_gives _ _ _ _ _ _ c.requires in
-    omega (arith, row-limit-small)
-
-pub overflow_add-k-in-loop-k : goal.overflow_add-k-in-loop-k
-overflow_add-k-in-loop-k c =
-    let g = fits_gives _ _ _ _ _ _ c.requires in
-    omega (arith, row-limit-small)
-
-pub loop-k-smaller : goal.loop-k-smaller
-loop-k-smaller c = omega arith
+    omega (arith, row-limit-small, c.from-n.ensures, one-at-most c.is_below.result)
 
 pub loop-k-preserved : goal.loop-k-preserved
 loop-k-preserved c = (
-  omega arith,
-  omega arith,
-  less-more _ _ _ _ _ _ c.loop-k.invariant.2 c.is_below.ensures c.one_if-n.ensures.0,
+  omega (arith, c.from-n.ensures, one-at-most c.is_below.result),
+  less-more _ _ _ _ _ _ c.loop-k.invariant.1 c.is_below.ensures (c.from-n.ensures ∙ one-if c.is_below.result),
   c.is_reached-next.ensures ∙ found-reach _ _ _ _ _ _ _ c.spot_of-s.ensures,
 )
 
 pub returns : goal.returns
 returns c =
     let e : c.loop-k.k ≡ c.args.c.rows - 1 = omega arith in
-    rw (← e) c.loop-k.invariant.2
+    rw (← e) c.loop-k.invariant.1

@@ -2,7 +2,7 @@
 use Rattle.std.proofs.Common.{◌≡◌, ◌-◌, ◌≤◌, sym, ◌∙◌, arith, rules}
 use Rattle.bounds.specs.Bounds.{row-limit-small}
 use Rattle.column.proofs.FitLaws.{fits_gives, fits-listed}
-use Rattle.column.specs.Lent.{lent}
+use Rattle.column.specs.Lent.{lent_of}
 use Rattle.column.proofs.SpotLaws.{found-reach}
 use Rattle.column.specs.Truth.{reachable_at}
 use Rattle.batches.specs.Batches.{less_rows}
@@ -10,8 +10,4 @@ use Rattle.batches.proofs.Laws.{less_none, less-more, no_rows}
 use Rattle.batches.proofs.count_less.Given as goal
 
 abbrev pub invariant-loop-k : goal.invariant-loop-k
-invariant-loop-k l = (l.k ≤ l.rows - 1) × (l.n ≤ l.k)
-    × (l.n ≡ less_rows (lent l.views l.bytes l.starts l.lens l.nulls) l.c l.k) × (l.good ≡ reachable_at (lent l.views l.bytes l.starts l.lens l.nulls) l.c l.k)
-
-abbrev pub decreases-loop-k : goal.decreases-loop-k
-decreases-loop-k l = l.rows - l.k
+invariant-loop-k l = (l.n ≤ l.k) × (l.n ≡ less_rows (lent_of l.l) l.c l.k) × (l.good ≡ reachable_at (lent_of l.l) l.c l.k)

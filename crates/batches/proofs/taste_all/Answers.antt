@@ -11,7 +11,7 @@ pub all_in_data-known-requires : goal.all_in_data-known-requires
 all_in_data-known-requires c = fits-listed _ _ _ _ _ _ c.requires
 
 pub loop-k-init : goal.loop-k-init
-loop-k-init c = (omega arith, taste-first _ _)
+loop-k-init c = taste-first _ _
 
 pub spot_of-s-requires : goal.spot_of-s-requires
 spot_of-s-requires c = (
@@ -25,21 +25,12 @@ taste_more-sum-requires c =
     found-lies _ _ _ _ _ _ _ c.spot_of-s.ensures
     (fits-view _ _ _ _ _ _ c.requires (omega arith))
 
-pub overflow_add-k : goal.overflow_add-k
-overflow_add-k c = omega arith
-
-pub loop-k-smaller : goal.loop-k-smaller
-loop-k-smaller c = omega arith
-
 pub loop-k-preserved : goal.loop-k-preserved
-loop-k-preserved c = (
-  omega arith,
-  taste-more _ _ _ _ _ _ c.loop-k.invariant.1
-      (spot-value _ _ _ _ _ _ _ c.requires (omega arith) _
-      c.spot_of-s.ensures) c.taste_more-sum.ensures,
-)
+loop-k-preserved c =
+    taste-more _ _ _ _ _ _ c.loop-k.invariant
+    (spot-value _ _ _ _ _ _ _ c.requires (omega arith) _ c.spot_of-s.ensures) c.taste_more-sum.ensures
 
 pub returns : goal.returns
 returns c =
     let e : c.loop-k.k ≡ c.args.c.rows = omega arith in
-    c.loop-k.invariant.1 ∙ ap (taste_rows _ _) e
+    c.loop-k.invariant ∙ ap (taste_rows _ _) e

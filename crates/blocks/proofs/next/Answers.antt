@@ -7,10 +7,10 @@ use Rattle.blocks.proofs.next.Goals as goal
 pub returns : goal.returns
 returns c =
     let w = c.args.w in (
-      (c.value-v.ensures.0 ∙ walk-value _ _ _, c.value-v.ensures.1),
+      (c.value-value.ensures.0 ∙ walk-value _ _ _, c.value-value.ensures.1),
       (
         c.why_value-why.ensures ∙ walk-why _ _ _,
         ap {A = ℕ} {B = Walk} (λ n. record { views = w.views; bytes = w.bytes; table = w.table; nulls = w.nulls; column = w.column; at = n })
-            (walk-place _ _ _ _ _ c.why_value-why.ensures c.next_place-n.ensures),
+            (walk-place _ _ _ _ _ c.why_value-why.ensures c.next_place-at.ensures),
       ),
     )

@@ -4,12 +4,14 @@ use native.Mathlib.Omega.{arith}
 use Rattle.bounds.specs.Bounds.{row-limit-is}
 use Rattle.blocks.proofs.WalkLaws.{stays-past, goes_on, stays-refused}
 use Rattle.blocks.proofs.next_place.Goals as goal
+use Rattle.blocks.proofs.next_place.Goals.{else-at-le-ROW_LIMIT-via-then-at-le-ROW_LIMIT+else-is_ok, else-at-le-ROW_LIMIT-via-else-at-le-ROW_LIMIT}
 
-pub returns-then-at-gt-ROW_LIMIT : goal.returns-then-at-gt-ROW_LIMIT
-returns-then-at-gt-ROW_LIMIT c = λ h. stays-past _ _ (omega (arith, row-limit-is)) h
+pub returns-then-is_ok : goal.returns-then-is_ok
+returns-then-is_ok c = λ h. goes_on _ _ (sym c.is_ok.ensures.value ∙ c.if-is_ok.true)
 
-pub returns-then-is_accepted : goal.returns-then-is_accepted
-returns-then-is_accepted c = λ h. goes_on _ _ (sym c.is_accepted.ensures ∙ c.if-is_accepted.true)
-
-pub returns : goal.returns
-returns c = λ h. stays-refused _ _ (sym c.is_accepted.ensures ∙ c.if-is_accepted.false)
+pub returns-else-at-le-ROW_LIMIT : goal.returns-else-at-le-ROW_LIMIT
+returns-else-at-le-ROW_LIMIT c = λ h.
+    elim c.else-at-le-ROW_LIMIT.branch [
+      | else-at-le-ROW_LIMIT-via-then-at-le-ROW_LIMIT+else-is_ok w ↦ stays-refused _ _ (sym w.is_ok.ensures.value ∙ w.if-is_ok.false)
+      | else-at-le-ROW_LIMIT-via-else-at-le-ROW_LIMIT w ↦ stays-past _ _ (omega (arith, row-limit-is)) h
+    ]

@@ -1,9 +1,9 @@
--- `builder_exports::growth_of` meets its contract. Assumes nothing.
 use Rattle.builder_exports.proofs.NumberLaws.{growth-zero, growth-other}
+use native.Mathlib.Omega.{arith}
 use Rattle.builder_exports.proofs.growth_of.Goals as goal
 
-pub returns-then-g-eq0 : goal.returns-then-g-eq0
-returns-then-g-eq0 c = growth-zero _ _ c.if-g-eq0.true
+pub returns-in-0 : goal.returns-in-0
+returns-in-0 c = growth-zero _ _ c.in-0.is
 
-pub returns : goal.returns
-returns c = growth-other _ _ c.if-g-eq0.false
+pub returns-in_default : goal.returns-in_default
+returns-in_default c = growth-other _ _ (omega arith)

@@ -1,6 +1,5 @@
 -- `builder_exports::numbers_of` meets its contract. Assumes nothing.
 use Rattle.builder_exports.proofs.NumberLaws.{numbers-are}
-use borrow.Author.Rules.{rules}
 use Rattle.builder_exports.proofs.numbers_of.Goals as goal
 
 pub returns : goal.returns

@@ -1,6 +1,5 @@
 -- `builder_exports::settings_of` meets its contract. Assumes nothing.
 use Rattle.builder_exports.proofs.NumberLaws.{settings-is}
-use borrow.Author.Rules.{rules}
 use Rattle.builder_exports.proofs.settings_of.Goals as goal
 
 pub returns : goal.returns

@@ -1,9 +1,9 @@
--- `builder_exports::sizes_of` meets its contract. Assumes nothing.
 use Rattle.builder_exports.proofs.NumberLaws.{sizes-zero, sizes-other}
+use native.Mathlib.Omega.{arith}
 use Rattle.builder_exports.proofs.sizes_of.Goals as goal
 
-pub returns-then-g-eq0 : goal.returns-then-g-eq0
-returns-then-g-eq0 c = sizes-zero _ _ c.if-g-eq0.true
+pub returns-in-0 : goal.returns-in-0
+returns-in-0 c = sizes-zero _ _ c.in-0.is
 
-pub returns : goal.returns
-returns c = sizes-other _ c.args.n c.if-g-eq0.false
+pub returns-in_default : goal.returns-in_default
+returns-in_default c = sizes-other _ c.args.n (omega arith)

@@ -1,6 +1,5 @@
 -- `builder_exports::state_of` meets its contract. Assumes nothing.
 use Rattle.builder_exports.proofs.NumberLaws.{state-is}
-use borrow.Author.Rules.{rules}
 use Rattle.builder_exports.proofs.state_of.Goals as goal
 
 pub returns : goal.returns

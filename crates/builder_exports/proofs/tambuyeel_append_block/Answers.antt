@@ -5,7 +5,7 @@ use Rattle.builder_exports.proofs.tambuyeel_append_block.Goals as goal
 
 pub returns : goal.returns
 returns c = (
-  exported _ _ _ _ _ _ _ _ _ _ _ _ _ _ _ _ _ c.state_of-s.ensures c.append_block-a.ensures.0 _ _ c.tell-refused.ensures.0
-      c.tell-refused.ensures.1,
+  exported _ _ _ _ _ _ _ _ _ _ _ _ _ _ _ _ _ c.state_of-s.ensures c.append_block-a.ensures.0 _ _ c.tell.ensures.0
+      c.tell.ensures.1,
   rw c.state_of-s.ensures at c.append_block-a.ensures.1,
 )

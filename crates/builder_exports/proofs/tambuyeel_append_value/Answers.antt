@@ -1,6 +1,5 @@
 -- `builder_exports::tambuyeel_append_value` meets its contract. Assumes nothing.
 use Rattle.builder_exports.proofs.NumberLaws.{exported}
-use borrow.Author.Rules.{rules}
 use Rattle.builder_exports.proofs.tambuyeel_append_value.Goals as goal
 
 pub returns : goal.returns

@@ -1,7 +1,6 @@
 -- `builder_exports::tambuyeel_finish_by_copy` meets its contract. Assumes nothing.
 use Rattle.builder.specs.Finish.{finish_column}
 use Rattle.builder_exports.proofs.NumberLaws.{exported, column-left}
-use borrow.Author.Rules.{rules}
 use Rattle.builder_exports.proofs.tambuyeel_finish_by_copy.Goals as goal
 
 pub returns : goal.returns

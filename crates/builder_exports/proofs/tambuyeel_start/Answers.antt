@@ -1,6 +1,5 @@
 -- `builder_exports::tambuyeel_start` meets its contract. Assumes nothing.
 use Rattle.builder_exports.proofs.NumberLaws.{start_left}
-use borrow.Author.Rules.{rules}
 use Rattle.builder_exports.proofs.tambuyeel_start.Goals as goal
 
 pub returns : goal.returns

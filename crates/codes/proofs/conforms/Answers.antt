@@ -1,19 +1,16 @@
 -- `codes::conforms` meets its contract. Assumes nothing.
+use Rattle.std.proofs.Common.{arith}
 use Rattle.codes.proofs.Laws.{code-short, code-long, code-parted}
-use native.Mathlib.Omega.{arith}
 use Rattle.codes.proofs.conforms.Goals as goal
 
-pub returns-then-s-lt4 : goal.returns-then-s-lt4
-returns-then-s-lt4 c = code-short _ c.if-s-lt4.true
+pub returns-in-4-to-8 : goal.returns-in-4-to-8
+returns-in-4-to-8 c = code-parted _ _ (omega arith) (omega arith) c.is_parted.ensures
 
-pub returns-then-s-gt24 : goal.returns-then-s-gt24
-returns-then-s-gt24 c = code-long _ c.if-s-gt24.true
+pub returns-in-9-to-24 : goal.returns-in-9-to-24
+returns-in-9-to-24 c = code-parted _ _ (omega arith) (omega arith) c.is_parted_long.ensures
 
-pub returns-then-s-lt9 : goal.returns-then-s-lt9
-returns-then-s-lt9 c = code-parted _ _ (omega arith) (omega arith) c.is_parted.ensures
+pub returns-in_default : goal.returns-in_default
+returns-in_default c = code-short _ (omega arith)
 
-pub is_parted_long-requires : goal.is_parted_long-requires
-is_parted_long-requires c = (omega arith, omega arith)
-
-pub returns : goal.returns
-returns c = code-parted _ _ (omega arith) (omega arith) c.is_parted_long.ensures
+pub returns-in_default-2 : goal.returns-in_default-2
+returns-in_default-2 c = code-long _ (omega arith)

@@ -1,91 +1,31 @@
 -- `codes::groups_follow` meets its contract. Assumes nothing.
-use Rattle.codes.proofs.Laws.{follow-end, follow-none, follow-other, follow-no, follow-on, follow-room}
-use Rattle.codes.specs.Recogniser.{leading}
-use mathlib.Core.Path.{refl, sym, ap, ◌∙◌}
-use native.Mathlib.Omega.{arith}
+use Rattle.std.proofs.Common.{◌≡◌, ℕ, suc, ◌+◌, ◌-◌, sym, ap, ◌∙◌, arith}
+use Rattle.std.proofs.lemmas.List.{take_rest}
+use Rattle.codes.specs.Recogniser.{groups_follow}
+use Rattle.codes.proofs.Laws.{follow-end, follow-last, follow-other, follow-no, follow-on}
 use Rattle.codes.proofs.groups_follow.Goals as goal
+use Rattle.codes.proofs.groups_follow.Goals.{then-b-ne45-via-then-b-ne45, then-b-ne45-via-else-b-ne45+then-not-is_group}
 
-pub loop-at-init : goal.loop-at-init
-loop-at-init c = (omega arith, (omega arith, refl))
+pub returns-in_default : goal.returns-in_default
+returns-in_default c = follow-end (2 - c.loop.counter) _ c.in_default.ensures.cases ∙ c.loop.invariant
 
-pub returns-then-left-eq0 : goal.returns-then-left-eq0
-returns-then-left-eq0 c = sym
-    (follow-none c.args.s.now c.loop-at.at (omega arith) c.loop-at.left
-    c.if-left-eq0.true) ∙ c.loop-at.invariant.1.1
+pub returns-then-b-ne45 : goal.returns-then-b-ne45
+returns-then-b-ne45 c =
+    elim c.then-b-ne45.branch [
+      | then-b-ne45-via-then-b-ne45 w ↦ follow-other _ _ _ c.in-Some.ensures.cases.0 (2 - c.loop.counter) w.if-b-ne45.true ∙ c.loop.invariant
+      | then-b-ne45-via-else-b-ne45+then-not-is_group w ↦
+          follow-no _ _ _ c.in-Some.ensures.cases.0 _ c.leading-d.ensures.0 (2 - c.loop.counter) (sym w.is_group.ensures ∙ w.if-not-is_group.true) ∙ c.loop.invariant
+    ]
 
-pub bounds-s-at : goal.bounds-s-at
-bounds-s-at c = omega arith
-
-pub returns-then-s-at-ne45 : goal.returns-then-s-at-ne45
-returns-then-s-at-ne45 c = sym
-    (follow-other c.args.s.now c.loop-at.at (omega arith)
-    c.loop-at.left c.if-s-at-ne45.true) ∙ c.loop-at.invariant.1.1
-
-pub overflow_add-at : goal.overflow_add-at
-overflow_add-at c = omega arith
-
-pub back-requires : goal.back-requires
-back-requires c = omega arith
-
-pub leading-d-requires : goal.leading-d-requires
-leading-d-requires c = tt
-
-pub is_group-requires : goal.is_group-requires
-is_group-requires c = tt
-
-pub returns-then-not-is_group : goal.returns-then-not-is_group
-returns-then-not-is_group c = sym
-    (follow-no c.args.s.now
-    c.loop-at.at (omega arith)
-    c.loop-at.left _ c.if-left-eq0.false
-    c.if-s-at-ne45.false (c.leading-d.ensures.0 ∙ ap leading c.back.ensures)
-    (sym c.is_group.ensures ∙ c.if-not-is_group.true))
-    ∙ c.loop-at.invariant.1.1
-
-pub overflow_sub-left : goal.overflow_sub-left
-overflow_sub-left c = omega arith
-
-pub overflow_add-at-in-loop-at : goal.overflow_add-at-in-loop-at
-overflow_add-at-in-loop-at c = omega (
-  arith,
-  follow-room c.args.s.now _
-      c.loop-at.at _ (omega arith) c.back.ensures
-      c.leading-d.ensures.1,
-)
-
-pub overflow_add-at-in-loop-at-2 : goal.overflow_add-at-in-loop-at-2
-overflow_add-at-in-loop-at-2 c = omega (
-  arith,
-  follow-room c.args.s.now _
-      c.loop-at.at _ (omega arith) c.back.ensures
-      c.leading-d.ensures.1,
-)
-
-pub loop-at-smaller : goal.loop-at-smaller
-loop-at-smaller c = omega (
-  arith,
-  follow-room c.args.s.now _
-      c.loop-at.at _ (omega arith) c.back.ensures
-      c.leading-d.ensures.1,
-)
-
-pub loop-at-preserved : goal.loop-at-preserved
-loop-at-preserved c = (
-  follow-room c.args.s.now _
-      c.loop-at.at _ (omega arith) c.back.ensures
-      c.leading-d.ensures.1,
-  (
-    omega arith,
-    sym
-        (follow-on c.args.s.now
-        c.loop-at.at (omega arith)
-        c.loop-at.left _ c.if-left-eq0.false
-        c.if-s-at-ne45.false (c.leading-d.ensures.0 ∙ ap leading c.back.ensures)
-        (sym c.is_group.ensures ∙ c.if-not-is_group.false))
-        ∙ c.loop-at.invariant.1.1,
-  ),
-)
+pub loop-preserved : goal.loop-preserved
+loop-preserved c =
+    let n : ℕ = 2 - (c.loop.counter + 1) in
+    let e : suc n ≡ 2 - c.loop.counter = omega arith in
+    ap (groups_follow n) (take_rest c.in-Some.digits.now c.leading-d.result)
+    ∙ (sym (follow-on _ _ _ c.in-Some.ensures.cases.0 _ c.leading-d.ensures.0 n c.if-b-ne45.false (sym c.is_group.ensures ∙ c.if-not-is_group.false))
+    ∙ (ap (λ (m : ℕ). groups_follow m c.loop.rest.now) e ∙ c.loop.invariant))
 
 pub returns : goal.returns
-returns c = sym (follow-end c.args.s.now c.loop-at.at c.loop-at.left (omega arith))
-    ∙ c.loop-at.invariant.1.1
+returns c =
+    let e : 0 ≡ 2 - c.loop.counter = omega arith in
+    c.is_empty.ensures ∙ (follow-last c.loop.rest.now ∙ (ap (λ (m : ℕ). groups_follow m c.loop.rest.now) e ∙ c.loop.invariant))

@@ -1,25 +1,16 @@
 -- `codes::is_groups` meets its contract. Assumes nothing.
-use Rattle.codes.proofs.Laws.{groups-no, groups-one, groups-more}
+use Rattle.std.proofs.Common.{sym, ap, ◌∙◌, le-ltb}
+use Rattle.std.proofs.lemmas.List.{take_rest}
 use Rattle.codes.specs.Recogniser.{groups_follow}
-use mathlib.Core.Path.{sym, ◌∙◌, ap}
+use Rattle.codes.proofs.Laws.{groups-no, groups-one, groups-more}
 use Rattle.codes.proofs.is_groups.Goals as goal
-
-pub is_group-requires : goal.is_group-requires
-is_group-requires c = tt
 
 pub returns-then-not-is_group : goal.returns-then-not-is_group
 returns-then-not-is_group c = groups-no _ _ c.requires.0 (sym c.is_group.ensures ∙ c.if-not-is_group.true)
 
-pub returns-then-s-d : goal.returns-then-s-d
-returns-then-s-d c = groups-one _ _ c.requires.0 c.if-s-d.true
+pub returns-then-d-s : goal.returns-then-d-s
+returns-then-d-s c = groups-more _ _ c.requires.0 _ (sym c.is_group.ensures ∙ c.if-not-is_group.false) c.if-d-s.true
+    (c.groups_follow.ensures ∙ ap (groups_follow 2) (take_rest c.args.s.now c.args.d))
 
-pub back-requires : goal.back-requires
-back-requires c = c.requires.1
-
-pub groups_follow-requires : goal.groups_follow-requires
-groups_follow-requires c = tt
-
-pub returns : goal.returns
-returns c = groups-more _ _ c.requires.0 _
-    (sym c.is_group.ensures ∙ c.if-not-is_group.false) c.if-s-d.false
-    (c.groups_follow.ensures ∙ ap (groups_follow 2) c.back.ensures)
+pub returns-else-d-s : goal.returns-else-d-s
+returns-else-d-s c = le-ltb _ _ c.if-d-s.false ∙ groups-one _ _ c.requires.0 c.if-d-s.false

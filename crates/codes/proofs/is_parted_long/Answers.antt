@@ -1,6 +1,5 @@
 -- `codes::is_parted_long` meets its contract. Assumes nothing.
 use Rattle.codes.proofs.Long.{window-of, long-no, last-stands, two-windows, three-windows}
-use borrow.Author.Tests.{not-false}
 use mathlib.Core.Bool.{true≢false}
 use mathlib.Core.Path.{refl, sym, ◌∙◌}
 use native.Mathlib.Omega.{arith}
@@ -29,19 +28,11 @@ returns-then-n-le17 c = two-windows c.args.s.now
     (sym c.may_stand.ensures ∙ c.if-not-may_stand.false)
     (sym c.window.ensures ∙ c.if-not-window.false) _ c.if-n-le17.true c.window-then-n-le17.ensures
 
-pub returns-then-not-window-2 : goal.returns-then-not-window-2
-returns-then-not-window-2 c = long-no c.args.s.now
-    c.requires.0
-    (λ p. true≢false
-    (sym (window-of c.args.s.now p 8 (omega arith)) ∙
-    (sym c.window-2.ensures ∙ c.if-not-window-2.true)))
+pub returns-then-window : goal.returns-then-window
+returns-then-window c = three-windows c.args.s.now c.requires.0 c.if-s-eq45.false
+    (sym c.may_stand.ensures ∙ c.if-not-may_stand.false) (sym c.window.ensures ∙ c.if-not-window.false) _ c.requires.1
+    (sym c.window-2.ensures ∙ c.if-window.true) c.window-then-window.ensures
 
-pub returns : goal.returns
-returns c = three-windows c.args.s.now
-    c.requires.0
-    c.if-s-eq45.false
-    (sym c.may_stand.ensures ∙ not-false _
-    c.if-not-may_stand.false-raw)
-    (sym c.window.ensures ∙ c.if-not-window.false) _
-    c.requires.1
-    (sym c.window-2.ensures ∙ c.if-not-window-2.false) c.window-3.ensures
+pub returns-else-window : goal.returns-else-window
+returns-else-window c = c.if-window.false ∙ long-no c.args.s.now c.requires.0
+    (λ p. true≢false (sym (window-of c.args.s.now p 8 (omega arith)) ∙ (sym c.window-2.ensures ∙ c.if-window.false)))

@@ -1,13 +1,12 @@
 -- `codes::past_hyphen` meets its contract. Assumes nothing.
 use Rattle.codes.proofs.Laws.{past-none, past_one, past-other}
-use mathlib.Core.Path.{◌∙◌}
 use Rattle.codes.proofs.past_hyphen.Goals as goal
 
-pub returns-then-s-eq0 : goal.returns-then-s-eq0
-returns-then-s-eq0 c = c.back.ensures ∙ past-none _ c.if-s-eq0.true
+pub returns-in-Some : goal.returns-in-Some
+returns-in-Some c = past_one _ _ _ c.in-Some.ensures.cases.0 c.if-b-eq45.true
 
-pub returns-then-s-eq45 : goal.returns-then-s-eq45
-returns-then-s-eq45 c = c.back-then-s-eq45.ensures ∙ past_one _ c.if-s-eq0.false c.if-s-eq45.true
+pub returns-in_default : goal.returns-in_default
+returns-in_default c = past-other _ _ _ c.in-Some.ensures.cases.0 c.if-b-eq45.false
 
-pub returns : goal.returns
-returns c = c.back-2.ensures ∙ past-other _ c.if-s-eq0.false c.if-s-eq45.false
+pub returns-in_default-2 : goal.returns-in_default-2
+returns-in_default-2 c = past-none _ (rw c.in_default.is at c.split_first.ensures.cases)

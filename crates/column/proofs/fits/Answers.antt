@@ -4,4 +4,4 @@ use Rattle.column.proofs.FitLaws.{length-table}
 use Rattle.column.proofs.fits.Goals as goal
 
 pub returns : goal.returns
-returns c = c.fits_with.ensures.1 _ _ (c.least.ensures ∙ sym (length-table _ _))
+returns c = c.fits_with.ensures.1 _ _ (c.min.ensures ∙ sym (length-table _ _))

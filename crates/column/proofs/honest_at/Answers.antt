@@ -7,7 +7,7 @@ use Rattle.column.proofs.honest_at.Goals as goal
 pub returns-then-len-le-SHORT_MOST : goal.returns-then-len-le-SHORT_MOST
 returns-then-len-le-SHORT_MOST c = c.zeros_after.ensures ∙ rw c.requires.1 (honest-short _ _ _ (omega arith))
 
-pub returns : goal.returns
-returns c =
-    honest-long _ _ _ _ _ c.le32.ensures.0 c.le32-2.ensures.0 (λ j. (c.type_inv.views j).fits)
+pub returns-else-len-le-SHORT_MOST : goal.returns-else-len-le-SHORT_MOST
+returns-else-len-le-SHORT_MOST c =
+    honest-long _ _ _ _ _ c.le32.ensures.0 c.le32-else-len-le-SHORT_MOST.ensures.0 (λ j. (c.type_inv.views j).fits)
     (λ j. (c.type_inv.value j).fits) (omega arith) (omega arith) (omega arith)

@@ -7,13 +7,7 @@ use Rattle.column.proofs.FitLaws.{table_at}
 use Rattle.column.specs.Lent.{table_of, block}
 use Rattle.column.proofs.record_at.Goals as goal
 
-pub returns-then-view_len-le-SHORT_MOST : goal.returns-then-view_len-le-SHORT_MOST
-returns-then-view_len-le-SHORT_MOST c = λ l h. absurd (omega arith)
-
-pub returns-then-blocks-k : goal.returns-then-blocks-k
-returns-then-blocks-k c = λ l h. absurd (omega arith)
-
 pub returns : goal.returns
-returns c = λ l h. let s = c.args in
+returns c = λ l h. let s = c.args.l in
     let k = c.view_block-k in sym (table_at s.starts.now s.lens.now k.result (omega arith) (omega arith))
     ∙ ap (λ (j : ℕ). get_or (table_of s.starts.now s.lens.now) j (block 0 0)) k.ensures.0

@@ -4,8 +4,8 @@ use Rattle.bounds.specs.Bounds.{byte-limit-is}
 use Rattle.column.proofs.SpotLaws.{spot-short, reached-spans, reached-data}
 use Rattle.column.proofs.spot_reached.Goals as goal
 
-pub bounds-starts-k : goal.bounds-starts-k
-bounds-starts-k c =
+pub bounds-l-k : goal.bounds-l-k
+bounds-l-k c =
     let p = c.requires in
     let g = reached-spans _ _ _ _ _ _ _ _ _ c.view_len-len.ensures.0 c.if-len-gt-SHORT_MOST.true
     c.view_block-k.ensures.0 c.view_offset-offset.ensures.0 p.0 p.1 in

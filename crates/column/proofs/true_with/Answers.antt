@@ -21,19 +21,19 @@ honest_at-requires c = (
       c.spot_with-s.ensures (sym c.is_reached.ensures ∙ c.if-not-is_reached.false) c.requires,
 )
 
-pub returns-then-not-honest_at : goal.returns-then-not-honest_at
-returns-then-not-honest_at c =
-    λ table nulls e. untrue-honest _ _ _ _ _ (c.part_of-value.ensures.0
+pub returns-else-honest_at : goal.returns-else-honest_at
+returns-else-honest_at c =
+    λ table nulls e. c.if-honest_at.false ∙ untrue-honest _ _ _ _ _ (c.part_of-value.ensures.0
     ∙ spot-shown _ _ _ _ _ _ _ (spot_is _ _ _ _ _ _ _ c.room_of.ensures c.spot_with-s.ensures table nulls e)
     (sym c.is_reached.ensures ∙ c.if-not-is_reached.false))
     (sym (spot-reaches _ _ _ _ _ _ _ c.room_of.ensures c.spot_with-s.ensures table nulls e)
     ∙ sym c.is_reached.ensures ∙ c.if-not-is_reached.false)
-    (sym c.honest_at.ensures ∙ c.if-not-honest_at.true)
+    (sym c.honest_at.ensures ∙ c.if-honest_at.false)
 
-pub returns : goal.returns
-returns c =
+pub returns-then-honest_at : goal.returns-then-honest_at
+returns-then-honest_at c =
     λ table nulls e. c.of_kind.ensures ∙ true-kind _ _ _ _ _ (c.part_of-value.ensures.0
     ∙ spot-shown _ _ _ _ _ _ _ (spot_is _ _ _ _ _ _ _ c.room_of.ensures c.spot_with-s.ensures table nulls e)
     (sym c.is_reached.ensures ∙ c.if-not-is_reached.false))
     (sym (spot-reaches _ _ _ _ _ _ _ c.room_of.ensures c.spot_with-s.ensures table nulls e) ∙ sym c.is_reached.ensures
-    ∙ c.if-not-is_reached.false) (sym c.honest_at.ensures ∙ c.if-not-honest_at.false)
+    ∙ c.if-not-is_reached.false) (sym c.honest_at.ensures ∙ c.if-honest_at.true)

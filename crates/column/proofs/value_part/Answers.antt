@@ -9,7 +9,7 @@ part_of-requires c = found-lies _ _ _ _ _ _ _ c.spot_reached-s.ensures c.require
 
 pub returns : goal.returns
 returns c =
-    let s = c.args in (
+    let s = c.args.l in (
       c.part_of.ensures.0
           ∙ spot-shown _ _ _ _ _ _ _ c.spot_reached-s.ensures (found-reach _ _ _ _ _ _ _ c.spot_reached-s.ensures ∙ c.requires.1),
       c.part_of.ensures.1 ∙ ap (points_to s.views.ref_ptr s.bytes.ref_ptr) c.spot_reached-s.ensures,

@@ -8,10 +8,6 @@ put_value-requires c =
     let p = c.requires in
     record { row = p.row; place = omega arith; long = p.long; len = omega arith; block = omega arith; offset = omega arith }
 
-pub grown-requires : goal.grown-requires
-grown-requires c =
-    let g = room-kept _ _ _ _ c.room_for-t.ensures in let p = c.requires in omega arith
-
 pub returns : goal.returns
 returns c =
     let p = c.put_value.ensures in

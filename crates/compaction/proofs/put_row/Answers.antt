@@ -14,7 +14,7 @@ returns-then-view_len-le-SHORT_MOST c =
     row-short _ _ _ _ _ _ _ _ _ _ (omega (arith, c.view_len.ensures))
     (record {
       next = refl;
-      views = c.copy16.ensures ∙ view-paste s.newviews.now s.views.now (view_size * s.row) s.at;
+      views = c.copy16.ensures ∙ view-paste s.newviews.now s.l.views.now (view_size * s.row) s.at;
       bytes = refl;
     })
 

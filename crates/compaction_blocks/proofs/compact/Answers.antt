@@ -1,40 +1,25 @@
--- `compaction_blocks::compact` meets its contract. Assumes nothing.
-use mathlib.Core.Path.{refl}
-use Rattle.column.specs.Lent.{buffers}
-use Rattle.compaction_blocks.specs.Turns.{Plans}
-use Rattle.compaction_blocks.proofs.PlanLaws.{lowest-found, starts, maps, compacts}
+use Rattle.compaction.proofs.CallLaws.{wrote-not, wrote, accepts, source, write-in, room-table, map-in}
+use Rattle.compaction_blocks.proofs.RecordLaws.{compacts}
 use Rattle.compaction_blocks.proofs.compact.Goals as goal
+
+pub returns-in-Err : goal.returns-in-Err
+returns-in-Err c = compacts _ _ _ _ _ _ _ _ _ _ _ _ _ _ _ (wrote-not _ _ _ _ _ _ _ _ _ _ _ _ _ c.in-Err.ensures)
 
 pub write-requires : goal.write-requires
 write-requires c =
-    let a = c.args in
-    let plan : Plans a.most (buffers a.views.now a.bytes.now a.table.now a.nulls.now) a.c
-    (buffers a.newviews.now a.newbytes.now a.newtable.now a.newnulls.now) c.judge_with-j.result =
-    c.judge_with-j.ensures a.bytes.now a.table.now (buffers a.newviews.now a.newbytes.now a.newtable.now a.newnulls.now) refl
-    (record { views = refl; bytes = refl; count = refl; nulls = refl })
-    (lowest-found a.most a.views.now a.bytes.now a.nulls.now a.table.now a.c _ _ (c.rows_with-rows.ensures a.bytes.now a.table.now refl)
-    c.stop_at-good.ensures) in
-    starts a.most a.views.now a.bytes.now a.nulls.now a.table.now a.c a.newviews.now a.newbytes.now a.newnulls.now a.newtable.now _ plan
+    let h = accepts _ _ _ _ _ _ _ _ _ _ _ _ _ c.in-Ok.ensures in
+    record { source = source _ _ _ _ _ _ _ _ _ _ _ _ h; room = write-in _ _ _ _ _ _ _ _ _ _ _ _ h }
+
+pub put_table-requires : goal.put_table-requires
+put_table-requires c =
+    let h = accepts _ _ _ _ _ _ _ _ _ _ _ _ _ c.in-Ok.ensures in
+    let s = source _ _ _ _ _ _ _ _ _ _ _ _ h in
+    record { source = (s.views, s.rows, room-table _ _ _ _ _ _ _ _ _ _ _ _ h); counted = c.in-Ok.ensures.count }
 
 pub put_map-requires : goal.put_map-requires
-put_map-requires c =
-    let a = c.args in
-    let plan : Plans a.most (buffers a.views.now a.bytes.now a.table.now a.nulls.now) a.c
-    (buffers a.newviews.now a.newbytes.now a.newtable.now a.newnulls.now) c.judge_with-j.result =
-    c.judge_with-j.ensures a.bytes.now a.table.now (buffers a.newviews.now a.newbytes.now a.newtable.now a.newnulls.now) refl
-    (record { views = refl; bytes = refl; count = refl; nulls = refl })
-    (lowest-found a.most a.views.now a.bytes.now a.nulls.now a.table.now a.c _ _ (c.rows_with-rows.ensures a.bytes.now a.table.now refl)
-    c.stop_at-good.ensures) in
-    maps a.most a.views.now a.bytes.now a.nulls.now a.table.now a.c a.newviews.now a.newbytes.now a.newnulls.now a.newtable.now _ plan
+put_map-requires c = map-in _ _ _ _ _ _ _ _ _ _ _ _ (accepts _ _ _ _ _ _ _ _ _ _ _ _ _ c.in-Ok.ensures)
 
-pub returns : goal.returns
-returns c =
-    let a = c.args in
-    let plan : Plans a.most (buffers a.views.now a.bytes.now a.table.now a.nulls.now) a.c
-    (buffers a.newviews.now a.newbytes.now a.newtable.now a.newnulls.now) c.judge_with-j.result =
-    c.judge_with-j.ensures a.bytes.now a.table.now (buffers a.newviews.now a.newbytes.now a.newtable.now a.newnulls.now) refl
-    (record { views = refl; bytes = refl; count = refl; nulls = refl })
-    (lowest-found a.most a.views.now a.bytes.now a.nulls.now a.table.now a.c _ _ (c.rows_with-rows.ensures a.bytes.now a.table.now refl)
-    c.stop_at-good.ensures) in
-    compacts a.most a.views.now a.bytes.now a.nulls.now a.table.now a.c a.newviews.now a.newbytes.now a.newnulls.now a.newtable.now _ plan
-    c.write.new.newviews c.write.new.newbytes c.put_map.new.newnulls c.write.new.newtable c.write.ensures c.put_map.ensures
+pub returns-in-Ok : goal.returns-in-Ok
+returns-in-Ok c =
+    compacts _ _ _ _ _ _ _ _ _ _ _ _ _ _ _
+    (wrote _ _ _ _ _ _ _ _ _ _ _ _ _ c.in-Ok.ensures _ _ _ _ _ c.write.ensures c.put_table.ensures c.put_map.ensures)

@@ -1,40 +1,46 @@
--- `compaction_blocks::measure` meets its contract. Assumes nothing.
-use mathlib.Core.Path.{◌≡◌}
-use native.Mathlib.Omega.{arith}
+use Rattle.std.proofs.Common.{◌≡◌, ℕ, true, sym, ◌∙◌, arith, below_more}
 use Rattle.bounds.specs.Bounds.{row-limit-small}
-use Rattle.compaction.proofs.CutLaws.{stand-none, stand-next, next_grows}
+use Rattle.column.specs.Truth.{true_at}
+use Rattle.column.proofs.LowestLaws.{lowest-bad}
+use Rattle.compaction.proofs.CutLaws.{stand-start, stand-none, stand-next, next_grows}
+use Rattle.compaction_blocks.specs.Records.{source_of}
 use Rattle.compaction_blocks.proofs.measure.Goals as goal
 
 pub loop-k-init : goal.loop-k-init
-loop-k-init c = (omega arith, stand-none _ _, omega arith, omega arith)
+loop-k-init c =
+    let e = stand-start c.default-s.result c.default-s.ensures in
+    record { truth = λ r h. absurd (omega arith); stand = rw e (stand-none _ _); bytes = omega arith; blocks = omega arith }
 
-pub overflow_add-first : goal.overflow_add-first
-overflow_add-first c = omega (arith, row-limit-small)
+pub overflow_add-at : goal.overflow_add-at
+overflow_add-at c = omega (arith, row-limit-small)
 
-pub view_len-requires : goal.view_len-requires
-view_len-requires c = omega arith
+pub returns-then-not-true_with : goal.returns-then-not-true_with
+returns-then-not-true_with c =
+    λ w. lowest-bad _ _ _ w (omega arith) c.loop-k.invariant.truth
+    (sym (c.true_with.ensures _ _ (c.record_at-b.ensures _)) ∙ c.if-not-true_with.true)
 
 pub step-s-requires : goal.step-s-requires
 step-s-requires c = record { bytes = omega (arith, row-limit-small); blocks = omega (arith, row-limit-small) }
 
-pub overflow_add-k : goal.overflow_add-k
-overflow_add-k c = omega (arith, row-limit-small)
-
-pub loop-k-smaller : goal.loop-k-smaller
-loop-k-smaller c = omega arith
-
 pub loop-k-preserved : goal.loop-k-preserved
 loop-k-preserved c =
+    let a = c.args in
     let l = c.loop-k in
-    let g = next_grows _ _ _ _ c.step-s.ensures in (
-      omega arith,
-      stand-next _ _ _ _ _ _ c.view_len.ensures.0 l.invariant.1 c.step-s.ensures,
-      omega (arith, c.view_len.ensures),
-      omega arith,
-    )
+    let g = next_grows _ _ _ _ c.step-s.ensures in
+    record {
+      truth = below_more (λ (r : ℕ). true_at a.c.kind (source_of a.l) a.c r ≡ true) _ l.invariant.truth
+          (sym (c.true_with.ensures _ _ (c.record_at-b.ensures _)) ∙ c.if-not-true_with.false);
+      stand = stand-next _ _ _ _ _ _ c.view_len.ensures.0 l.invariant.stand c.step-s.ensures;
+      bytes = omega (arith, c.view_len.ensures);
+      blocks = omega arith;
+    }
 
 pub returns : goal.returns
 returns c =
-    let l = c.loop-k in
-    let q : l.k ≡ c.args.rows = omega arith in
-    (rw (← q) l.invariant.1, record { bytes = omega (arith, row-limit-small); blocks = omega (arith, row-limit-small) })
+    let i = c.loop-k.invariant in
+    let q : c.loop-k.k ≡ c.args.c.rows = omega arith in
+    record {
+      truth = λ r h. i.truth r (omega arith);
+      stand = rw (← q) i.stand;
+      small = record { bytes = omega (arith, row-limit-small); blocks = omega (arith, row-limit-small) };
+    }

@@ -1,39 +1,46 @@
--- `compaction_blocks::write` meets its contract. Assumes nothing.
-use native.Mathlib.Omega.{arith}
-use Rattle.compaction_blocks.proofs.TurnLaws.{going-first, going-in, going_next, going-fewer, going-last}
+use Rattle.std.proofs.Common.{◌≡◌, ◌<◌, refl, add-one, arith}
+use Rattle.bounds.specs.Bounds.{row-limit-small}
+use Rattle.column.specs.Meaning.{row_view}
+use Rattle.compaction.specs.Compact.{row_shown}
+use Rattle.compaction.proofs.CutLaws.{stand-start}
+use Rattle.compaction.proofs.LaidLaws.{laid_none, laid_next}
+use Rattle.compaction.proofs.PassLaws.{row-there, row-reach, row_sized, row_in, filled}
+use Rattle.compaction_blocks.specs.Records.{source_of}
 use Rattle.compaction_blocks.proofs.write.Goals as goal
 
-pub loop-p-init : goal.loop-p-init
-loop-p-init c =
-    let a = c.args in
-    going-first a.most a.views.now a.bytes.now a.table.now a.c a.newviews.now a.newbytes.now a.newtable.now a.first c.requires
+pub loop-k-init : goal.loop-k-init
+loop-k-init c =
+    let e = stand-start c.default-s.result c.default-s.ensures in
+    record { views = refl; bytes = refl; laid = rw e (laid_none _ _ _ _ _) }
 
-pub turn-t-requires : goal.turn-t-requires
-turn-t-requires c =
-    let a = c.args in
-    let l = c.loop-p in
-    going-in a.most a.views.now a.bytes.now a.table.now a.c a.newviews.now a.newbytes.now a.newtable.now a.first c.requires l.p
-    l.newviews l.newbytes l.newtable l.invariant _ _ (omega arith) c.block_of-k.ensures c.block_or-b.ensures
+pub overflow_add-c : goal.overflow_add-c
+overflow_add-c c = omega (arith, row-limit-small)
 
-pub loop-p-smaller : goal.loop-p-smaller
-loop-p-smaller c =
+pub put_row-s-requires : goal.put_row-s-requires
+put_row-s-requires c =
     let a = c.args in
-    let l = c.loop-p in
-    going-fewer a.most a.views.now a.bytes.now a.table.now a.c a.newviews.now a.newbytes.now a.newtable.now a.first c.requires l.p
-    l.newviews l.newbytes l.newtable l.invariant _ _ (omega arith) c.block_of-k.ensures c.block_or-b.ensures _ _ _ _
-    c.turn-t.ensures c.put_or.ensures
+    let p = c.requires in
+    let l = c.loop-k in
+    let h : l.k < a.c.rows = omega arith in
+    record {
+      source = ((row-there a.most _ _ _ _ a.c _ _ p.source p.room l.k h).row, row-reach a.most _ _ _ _ a.c _ _ p.source p.room l.k h);
+      room = row_in a.most _ _ _ _ a.c _ _ p.source p.room l.k h _ _ _ l.invariant.laid.stand l.invariant.views l.invariant.bytes;
+    }
 
-pub loop-p-preserved : goal.loop-p-preserved
-loop-p-preserved c =
+pub loop-k-preserved : goal.loop-k-preserved
+loop-k-preserved c =
     let a = c.args in
-    let l = c.loop-p in
-    going_next a.most a.views.now a.bytes.now a.table.now a.c a.newviews.now a.newbytes.now a.newtable.now a.first c.requires l.p
-    l.newviews l.newbytes l.newtable l.invariant _ _ (omega arith) c.block_of-k.ensures c.block_or-b.ensures _ _ _ _
-    c.turn-t.ensures c.put_or.ensures (omega arith) (omega arith) (omega arith)
+    let p = c.requires in
+    let l = c.loop-k in
+    record {
+      views = omega arith;
+      bytes = omega arith;
+      laid = rw (add-one l.k) (laid_next a.most (row_view (source_of a.l) a.c) (row_shown (source_of a.l) a.c) _ _ l.k _ _ l.s _ _ _
+          (λ r g. row_sized a.most _ _ _ _ a.c _ _ p.source p.room r (omega arith)) l.invariant.laid c.put_row-s.ensures);
+    }
 
 pub returns : goal.returns
 returns c =
-    let a = c.args in
-    let l = c.loop-p in
-    going-last a.most a.views.now a.bytes.now a.table.now a.c a.newviews.now a.newbytes.now a.newtable.now a.first c.requires l.p
-    l.newviews l.newbytes l.newtable l.invariant (omega arith)
+    let p = c.requires in
+    let q : c.loop-k.k ≡ c.args.c.rows = omega arith in
+    filled _ _ _ _ _ _ _ _ p.source p.room _ _ _ (rw q at c.loop-k.invariant.laid)

@@ -1,9 +1,13 @@
--- `compaction_blocks::write` meets its contract. Assumes nothing.
-use Rattle.compaction_blocks.proofs.TurnLaws.{Going}
+use Rattle.std.proofs.Common.{◌≡◌, length}
+use Rattle.column.specs.Meaning.{row_view}
+use Rattle.compaction.specs.Compact.{row_shown}
+use Rattle.compaction.specs.Steps.{Laid}
+use Rattle.compaction_blocks.specs.Records.{source_of}
 use Rattle.compaction_blocks.proofs.write.Given as goal
 
-abbrev pub invariant-loop-p : goal.invariant-loop-p
-invariant-loop-p l = Going l.most l.views l.bytes l.table l.c l.initial.newviews l.initial.newbytes l.initial.newtable l.fn.first l.p l.newviews l.newbytes l.newtable
-
-abbrev pub decreases-loop-p : goal.decreases-loop-p
-decreases-loop-p l = l.p.left
+abbrev pub invariant-loop-k : goal.invariant-loop-k
+invariant-loop-k l = record {
+  views : length l.newviews ≡ length l.initial.newviews;
+  bytes : length l.newbytes ≡ length l.initial.newbytes;
+  laid : Laid l.most (row_view (source_of l.l) l.c) (row_shown (source_of l.l) l.c) l.initial.newviews l.initial.newbytes l.k l.newviews l.newbytes l.s;
+}

@@ -1,5 +1,5 @@
 -- `comparison::by_views` meets its contract. Assumes nothing.
-use mathlib.Core.Path.{sym, ◌∙◌}
+use mathlib.Core.Path.{◌∙◌}
 use native.Mathlib.Omega.{arith}
 use Rattle.order.proofs.WordOrder.{four-equal}
 use Rattle.comparison.specs.VerdictLaws.{short-order, whole-order, four-order}
@@ -9,14 +9,6 @@ pub returns-then-p-q : goal.returns-then-p-q
 returns-then-p-q c = λ bs cs. c.by_word.ensures ∙ four-order bs _ cs _ (λ j. (c.type_inv.v j).fits)
     (λ j. (c.type_inv.w j).fits) (omega arith) (omega arith) _ _
     c.be32-p.ensures.0 c.be32-q.ensures.0 c.if-p-q.true
-
-pub cmp_short-requires : goal.cmp_short-requires
-cmp_short-requires c = (
-  omega arith,
-  omega arith,
-  sym c.be32-p.ensures.0 ∙ c.if-p-q.false
-      ∙ c.be32-q.ensures.0,
-)
 
 pub returns-then-both_short : goal.returns-then-both_short
 returns-then-both_short c = λ bs cs. short-order bs _ cs _ (omega arith) (omega arith) _ _ c.view_len.ensures.0

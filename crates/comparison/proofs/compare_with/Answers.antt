@@ -1,37 +1,21 @@
 -- `comparison::compare_with` meets its contract. Assumes nothing.
 use mathlib.Core.Path.{◌∙◌}
-use Rattle.comparison.specs.VerdictLaws.{both_is, compared-left, compared-right, compared-by}
+use Rattle.reading.proofs.ReadingLaws.{handed-on}
+use Rattle.comparison.specs.VerdictLaws.{both_is, compared-no, compared-by}
 use Rattle.reading.proofs.LocatedLaws.{located-why, located-bytes}
 use Rattle.comparison.proofs.compare_with.Goals as goal
 
-pub returns-in-Left : goal.returns-in-Left
-returns-in-Left c = λ table table2 sees sees2. compared-left _ _ _ _ _ _ _ (both_is _ _ _ _ _ _ _ _ _
-    (c.why_of.ensures
-    ∙ located-why _ _ _ _ (c.locate_with-p.ensures.1 table sees))
-    (c.why_of-2.ensures
-    ∙ located-why _ _ _ _ (c.locate_with-q.ensures.1 table2 sees2))
-    c.verdict_of-why.ensures) _ c.in-Left.is
-
-pub returns-in-Right : goal.returns-in-Right
-returns-in-Right c = λ table table2 sees sees2. compared-right _ _ _ _ _ _ _ (both_is _ _ _ _ _ _ _ _ _
-    (c.why_of.ensures
-    ∙ located-why _ _ _ _ (c.locate_with-p.ensures.1 table sees))
-    (c.why_of-2.ensures
-    ∙ located-why _ _ _ _ (c.locate_with-q.ensures.1 table2 sees2))
-    c.verdict_of-why.ensures) _ c.in-Right.is
-
-pub part_of-x-requires : goal.part_of-x-requires
-part_of-x-requires c = c.locate_with-p.ensures.0
-
-pub part_of-y-requires : goal.part_of-y-requires
-part_of-y-requires c = c.locate_with-q.ensures.0
-
-pub returns-in-Accepted : goal.returns-in-Accepted
-returns-in-Accepted c =
-    λ table table2 sees sees2. compared-by _ _ _ _ _ _ _ _ _ _ _ _ _ _ _ _ _ _ (both_is _ _ _ _ _ _ _ _ _ (c.why_of.ensures
-    ∙ located-why _ _ _ _ (c.locate_with-p.ensures.1 table sees)) (c.why_of-2.ensures
-    ∙ located-why _ _ _ _ (c.locate_with-q.ensures.1 table2 sees2))
-    c.verdict_of-why.ensures)
-    c.in-Accepted.is c.view_of-v.ensures c.view_of-w.ensures
+pub returns : goal.returns
+returns c =
+    λ table table2 sees sees2. compared-by _ _ _ _ _ _ _ _ _ _ _ _ _ _ _ _ _ _ (both_is _ _ _ _ _ _ _ _ _
+    (c.why_of.ensures ∙ located-why _ _ _ _ (c.locate_with-p.ensures.1 table sees))
+    (c.why_of-2.ensures ∙ located-why _ _ _ _ (c.locate_with-q.ensures.1 table2 sees2)) c.verdict_of.ensures)
+    c.in_ok-verdict_of.was c.view_of-v.ensures c.view_of-w.ensures
     (c.part_of-x.ensures.0 ∙ located-bytes _ _ _ _ _ _ _ (c.locate_with-p.ensures.1 table sees))
     (c.part_of-y.ensures.0 ∙ located-bytes _ _ _ _ _ _ _ (c.locate_with-q.ensures.1 table2 sees2)) c.order_with.ensures
+
+pub returns-in_err-verdict_of : goal.returns-in_err-verdict_of
+returns-in_err-verdict_of c =
+    λ table table2 sees sees2. handed-on _ _ _ c.from_residual.ensures.1 (compared-no _ _ _ _ _ _ _ (both_is _ _ _ _ _ _ _ _ _
+    (c.why_of.ensures ∙ located-why _ _ _ _ (c.locate_with-p.ensures.1 table sees))
+    (c.why_of-2.ensures ∙ located-why _ _ _ _ (c.locate_with-q.ensures.1 table2 sees2)) c.verdict_of.ensures) _ c.in_err-verdict_of.was)

@@ -1,13 +1,6 @@
 -- `comparison::view_of` meets its contract. Assumes nothing.
-use native.Mathlib.Omega.{arith}
 use Rattle.comparison.specs.VerdictLaws.{view-part}
 use Rattle.comparison.proofs.view_of.Goals as goal
-
-pub returns-then-rows-first : goal.returns-then-rows-first
-returns-then-rows-first c = λ h. absurd (omega arith)
-
-pub returns-then-rows-first-2 : goal.returns-then-rows-first-2
-returns-then-rows-first-2 c = λ h. absurd (omega arith)
 
 pub returns : goal.returns
 returns c = λ h. view-part _ _

@@ -6,4 +6,4 @@ use Rattle.exports.proofs.tambuyeel_value.Goals as goal
 
 pub returns : goal.returns
 unfolding place_at
-returns c = rw c.column_of-c.ensures at (c.told_place.ensures ∙ ap place_told c.locate.ensures)
+returns c = rw c.column_of.ensures at (c.told_place.ensures ∙ ap place_told c.locate.ensures)

@@ -3,7 +3,7 @@ use Rattle.std.proofs.Common.{◌≡◌, ◌+◌, length, set, ap, ◌∙◌, ad
 use Rattle.std.proofs.Math.Seq.{paste}
 use Rattle.column.specs.Lent.{block}
 use Rattle.column.specs.Meaning.{bytes_of}
-use Rattle.appending.specs.Laying.{put_data, put_records}
+use Rattle.appending.specs.Laying.{end_from, put_data, put_records}
 use Rattle.filing_columns.proofs.ColumnsLaws.{taking, data-none, records-none, end_none, block_inside, data-more, records-more, end_more, block_room_lem}
 use Rattle.filing_columns.proofs.put_blocks.Goals as goal
 
@@ -64,6 +64,7 @@ returns c =
     let f = taking a.src.now a.srctable.now in
     let i = c.loop-k.invariant in
     let e : c.loop-k.k ≡ a.n = omega (arith, i.few, c.loop-k-test.false) in (
+      i.end ∙ ap (λ z. end_from f z a.base) e,
       i.bytes-are ∙ ap (λ z. put_data f z a.bytes.now a.base) e,
       i.records ∙ ap (λ z. put_records f z a.table.now a.first a.base) e,
     )

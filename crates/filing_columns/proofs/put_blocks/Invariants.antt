@@ -1,5 +1,5 @@
--- Here: the blocks that are laid, and where the next one goes; the measure: the blocks that are left. Assumes nothing.
-use Rattle.std.proofs.Common.{◌≡◌, ◌≤◌, ◌-◌, ℕ, List}
+-- Here: the blocks that are laid, and where the next one goes. Assumes nothing.
+use Rattle.std.proofs.Common.{◌≡◌, ◌≤◌, ℕ, List}
 use Rattle.column.specs.declared.Block.{Block}
 use Rattle.appending.specs.Laying.{put_data, put_records, end_from}
 use Rattle.filing_columns.proofs.ColumnsLaws.{taking}
@@ -14,6 +14,3 @@ pub record Laid (bytes : List ℕ) (table : List Block) (src : List ℕ) (u : Li
 
 abbrev pub invariant-loop-k : goal.invariant-loop-k
 invariant-loop-k l = Laid l.fn.bytes l.fn.table l.src l.srctable l.first l.base l.n l.bytes l.table l.at l.k
-
-abbrev pub decreases-loop-k : goal.decreases-loop-k
-decreases-loop-k l = l.n - l.k

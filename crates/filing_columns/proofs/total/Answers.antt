@@ -1,25 +1,25 @@
 -- `filing_columns::total` meets its contract. Assumes nothing.
-use Rattle.std.proofs.Common.{◌≡◌, [], ◌+◌, ap, ◌∙◌, add-one, arith}
-use Rattle.column.specs.Lent.{buffers}
-use Rattle.builder.specs.Others.{sizes}
-use Rattle.filing_columns.proofs.ColumnsLaws.{sizes-none, sizes-more, sizes-fits}
+use Rattle.std.specs.Prelude.{sum_by}
+use Rattle.std.proofs.Common.{rules}
+use Rattle.std.proofs.iter.runs.Sources.{sums}
+use Rattle.column.specs.declared.Block.{Block}
+use Rattle.filing_columns.proofs.ColumnsLaws.{sizes-sum, sizes-small}
+use Prim.Native.Nat.{◌<◌}
+use lib.ListN.{take}
+use mathlib.Core.Path.{◌≡◌, ◌∙◌}
+use native.Mathlib.Omega.{arith}
 use Rattle.filing_columns.proofs.total.Goals as goal
 
-pub loop-k-init : goal.loop-k-init
-loop-k-init c = (omega arith, sizes-none c.args.table.now)
-
-pub overflow_add-t : goal.overflow_add-t
-overflow_add-t c =
-    let f = sizes-fits c.args.table.now c.args.n c.requires c.loop-k.k c.loop-k-test.true c.block_or-b.result c.block_or-b.ensures in
-    omega (arith, f, c.loop-k.invariant.1)
-
-pub loop-k-preserved : goal.loop-k-preserved
-loop-k-preserved c =
-    let u = c.args.table.now in
-    let e = sizes-more u c.loop-k.k c.block_or-b.result c.block_or-b.ensures in
-    (omega (arith, c.loop-k-test.true), rw (add-one, ← e) (ap (λ z. z + c.block_or-b.result.len) c.loop-k.invariant.1))
+pub sum-requires-clause-fits : goal.sum-requires-clause-fits
+sum-requires-clause-fits c =
+    let a = c.args in
+    let e = sizes-sum a.table.now a.n c.requires.0 in
+    let m = sizes-small a.table.now a.n c.requires.1 in
+    let h : sum_by (λ (b : Block). b.len) (take a.n a.table.now) < 18446744073709551616 = omega (arith, e, m) in
+    search (rules, sums, h)
 
 pub returns : goal.returns
 returns c =
-    let e : c.loop-k.k ≡ c.args.n = omega (arith, c.loop-k.invariant.0, c.loop-k-test.false) in
-    c.loop-k.invariant.1 ∙ ap (sizes (buffers [] [] c.args.table.now [])) e
+    let a = c.args in
+    let s : c.sum.result ≡ sum_by (λ (b : Block). b.len) (take a.n a.table.now) = search (rules, sums) in
+    s ∙ sizes-sum a.table.now a.n c.requires.0

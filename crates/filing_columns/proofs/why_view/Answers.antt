@@ -27,30 +27,30 @@ returns-then-not-in_data c =
     c.fits_with.ensures ∙ c.if-not-fits_with.false)
     c.if-s-k.false (sym c.in_data.ensures ∙ c.if-not-in_data.true)
 
-pub returns-then-size-o : goal.returns-then-size-o
-returns-then-size-o c =
+pub returns-then-b-o : goal.returns-then-b-o
+returns-then-b-o c =
     let a = c.args in
     says-over a.s a.views.now a.bytes.now a.nulls.now a.places.now a.count a.k a.offset a.n a.b (sym
     c.fits_with.ensures ∙ c.if-not-fits_with.false)
-    c.if-s-k.false (sym c.in_data.ensures ∙ c.if-not-in_data.false) c.if-size-o.true
+    c.if-s-k.false (sym c.in_data.ensures ∙ c.if-not-in_data.false) c.if-b-o.true
 
 pub overflow_add-a : goal.overflow_add-a
 overflow_add-a c =
     let a = c.args in
     let d = in-data-gives (buffers [] a.bytes.now [] []) a.b.start a.b.len (sym c.in_data.ensures ∙ c.if-not-in_data.false) in
-    omega (arith, d, c.if-size-o.false, byte-limit-small)
+    omega (arith, d, c.if-b-o.false, byte-limit-small)
 
-pub overflow_add-e : goal.overflow_add-e
-overflow_add-e c =
+pub overflow_add-a-2 : goal.overflow_add-a-2
+overflow_add-a-2 c =
     let a = c.args in
     let d = in-data-gives (buffers [] a.bytes.now [] []) a.b.start a.b.len (sym c.in_data.ensures ∙ c.if-not-in_data.false) in
-    omega (arith, d, c.if-size-o.false, byte-limit-small)
+    omega (arith, d, c.if-b-o.false, byte-limit-small)
 
 pub slice_bounds-of_kind-end : goal.slice_bounds-of_kind-end
 slice_bounds-of_kind-end c =
     let a = c.args in
     let d = in-data-gives (buffers [] a.bytes.now [] []) a.b.start a.b.len (sym c.in_data.ensures ∙ c.if-not-in_data.false) in
-    omega (arith, d, c.if-size-o.false)
+    omega (arith, d, c.if-b-o.false)
 
 pub returns-then-not-of_kind : goal.returns-then-not-of_kind
 returns-then-not-of_kind c =
@@ -58,16 +58,16 @@ returns-then-not-of_kind c =
     says-kind a.s a.views.now a.bytes.now a.nulls.now a.places.now a.count a.k a.offset a.n a.b (sym
     c.fits_with.ensures ∙ c.if-not-fits_with.false) c.if-s-k.false
     (sym c.in_data.ensures ∙ c.if-not-in_data.false)
-    c.if-size-o.false _ c.of_kind.ensures (c.if-not-of_kind.true)
+    c.if-b-o.false _ c.of_kind.ensures (c.if-not-of_kind.true)
 
-pub returns-then-rows_room-rows : goal.returns-then-rows_room-rows
-returns-then-rows_room-rows c =
+pub returns-then-rows_room-s : goal.returns-then-rows_room-s
+returns-then-rows_room-s c =
     let a = c.args in
     says-full a.s a.views.now a.bytes.now a.nulls.now a.places.now a.count a.k a.offset a.n a.b (sym
     c.fits_with.ensures ∙ c.if-not-fits_with.false)
     c.if-s-k.false (sym
-    c.in_data.ensures ∙ c.if-not-in_data.false) c.if-size-o.false _
-    c.of_kind.ensures _ c.rows_room.ensures (c.if-not-of_kind.false) c.if-rows_room-rows.true
+    c.in_data.ensures ∙ c.if-not-in_data.false) c.if-b-o.false _
+    c.of_kind.ensures _ c.rows_room.ensures (c.if-not-of_kind.false) c.if-rows_room-s.true
 
 pub returns : goal.returns
 returns c =
@@ -75,5 +75,5 @@ returns c =
     says-fine a.s a.views.now a.bytes.now a.nulls.now a.places.now a.count a.k a.offset a.n a.b (sym
     c.fits_with.ensures ∙ c.if-not-fits_with.false)
     c.if-s-k.false (sym
-    c.in_data.ensures ∙ c.if-not-in_data.false) c.if-size-o.false _
-    c.of_kind.ensures _ c.rows_room.ensures (c.if-not-of_kind.false) c.if-rows_room-rows.false
+    c.in_data.ensures ∙ c.if-not-in_data.false) c.if-b-o.false _
+    c.of_kind.ensures _ c.rows_room.ensures (c.if-not-of_kind.false) c.if-rows_room-s.false

@@ -11,23 +11,20 @@ returns-then-not-fits_lent c = does-refused _ _ _ _ _ _ _ _ _ _ (sym c.fits_lent
 
 pub put_record-requires : goal.put_record-requires
 put_record-requires c =
-    let a = c.args in
-    let f = fits_gives a.s a.views.now a.bytes.now a.starts.now a.lens.now a.nulls.now a.places.now
+    let f = fits_gives _ _ _ _ _ _ _
     (sym c.fits_lent.ensures ∙ c.if-not-fits_lent.false) in
     (f.starts, f.lens)
 
 pub column_of-requires : goal.column_of-requires
 column_of-requires c =
-    let a = c.args in
-    let f = fits_gives a.s a.views.now a.bytes.now a.starts.now a.lens.now a.nulls.now a.places.now
+    let f = fits_gives _ _ _ _ _ _ _
     (sym c.fits_lent.ensures ∙ c.if-not-fits_lent.false) in
     omega (arith, f.blocks, block-limit-small)
 
 pub returns : goal.returns
 returns c =
-    let a = c.args in
-    let f = fits_gives a.s a.views.now a.bytes.now a.starts.now a.lens.now a.nulls.now a.places.now
+    let f = fits_gives _ _ _ _ _ _ _
     (sym c.fits_lent.ensures ∙ c.if-not-fits_lent.false) in
-    does-copied a.s a.views.now a.bytes.now a.starts.now a.lens.now a.nulls.now a.places.now
+    does-copied _ _ _ _ _ _ _
     (sym c.fits_lent.ensures ∙ c.if-not-fits_lent.false) f.starts f.lens c.put_record.ensures.0 c.put_record.ensures.1 _
     c.column_of.ensures

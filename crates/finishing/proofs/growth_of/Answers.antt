@@ -4,6 +4,3 @@ use Rattle.finishing.proofs.growth_of.Goals as goal
 pub returns-in-Doubled : goal.returns-in-Doubled
 unfolding start_size
 returns-in-Doubled c = rw c.in-Doubled.is
-
-pub returns-in-Same : goal.returns-in-Same
-returns-in-Same c = rw c.in-Same.is

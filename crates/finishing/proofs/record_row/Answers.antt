@@ -5,12 +5,6 @@ use Rattle.finishing.proofs.GetLaws.{row-record}
 use native.Mathlib.Omega.{arith}
 use Rattle.finishing.proofs.record_row.Goals as goal
 
-pub returns-then-view_len-le-SHORT_MOST : goal.returns-then-view_len-le-SHORT_MOST
-returns-then-view_len-le-SHORT_MOST c = λ l h. absurd (omega arith)
-
-pub returns-then-all_blocks-k : goal.returns-then-all_blocks-k
-returns-then-all_blocks-k c = λ l h. absurd (omega arith)
-
 pub at_or-requires : goal.at_or-requires
 at_or-requires c = omega (arith, all-bounds c.args.s)
 

@@ -7,22 +7,21 @@ use Rattle.finishing.proofs.why_get.Goals as goal
 pub returns-then-not-fits_lent : goal.returns-then-not-fits_lent
 returns-then-not-fits_lent c = get_fit _ _ _ _ _ _ _ _ (sym c.fits_lent.ensures ∙ c.if-not-fits_lent.true)
 
-pub returns-then-rows-r : goal.returns-then-rows-r
-returns-then-rows-r c = get-late _ _ _ _ _ _ _ _ (sym c.fits_lent.ensures ∙ c.if-not-fits_lent.false) c.if-rows-r.true
+pub returns-then-s-r : goal.returns-then-s-r
+returns-then-s-r c = get-late _ _ _ _ _ _ _ _ (sym c.fits_lent.ensures ∙ c.if-not-fits_lent.false) c.if-s-r.true
 
 pub spot_row-requires : goal.spot_row-requires
 spot_row-requires c =
-    let a = c.args in
-    let f = fits_gives a.s a.views.now a.bytes.now a.starts.now a.lens.now a.nulls.now a.places.now
+    let f = fits_gives _ _ _ _ _ _ _
     (sym c.fits_lent.ensures ∙ c.if-not-fits_lent.false) in
-    (ready a.s a.views.now a.bytes.now a.starts.now a.lens.now a.nulls.now a.places.now f, c.if-rows-r.false)
+    (ready _ _ _ _ _ _ _ f, c.if-s-r.false)
 
 pub returns-then-not-is_reached : goal.returns-then-not-is_reached
 returns-then-not-is_reached c = get-bad _ _ _ _ _ _ _ _ (sym c.fits_lent.ensures
-    ∙ c.if-not-fits_lent.false) c.if-rows-r.false
+    ∙ c.if-not-fits_lent.false) c.if-s-r.false
     (sym (row-reach _ _ _ _ _ _ _ c.spot_row.ensures) ∙ sym c.is_reached.ensures ∙ c.if-not-is_reached.true)
 
 pub returns : goal.returns
 returns c = get-fine _ _ _ _ _ _ _ _ (sym c.fits_lent.ensures
-    ∙ c.if-not-fits_lent.false) c.if-rows-r.false
+    ∙ c.if-not-fits_lent.false) c.if-s-r.false
     (sym (row-reach _ _ _ _ _ _ _ c.spot_row.ensures) ∙ sym c.is_reached.ensures ∙ c.if-not-is_reached.false)

@@ -1,6 +1,6 @@
-use Rattle.hash.specs.Hash.{mixed}
+use Rattle.hash.specs.Hash.{rotl, mixed}
 use Rattle.hash.proofs.mix.Goals as goal
 
 pub returns : goal.returns
-unfolding mixed
-returns c = rw (← c.rot.ensures) c.wmul.ensures
+unfolding mixed rotl
+returns c = rw c.rotate_left.ensures

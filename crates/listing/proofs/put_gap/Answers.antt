@@ -1,7 +1,6 @@
 use Rattle.listing.specs.Text.{gap_line}
 use Rattle.listing.specs.Laws.{put-put, put_holds, decimal-fits}
 use native.Mathlib.Omega.{arith}
-use borrow.Author.Rules.{rules}
 use Rattle.listing.proofs.put_gap.Goals as goal
 
 pub put_number-b-requires : goal.put_number-b-requires

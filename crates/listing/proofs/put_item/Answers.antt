@@ -1,6 +1,5 @@
 use Rattle.listing.specs.Laws.{put-put, item-first, item-later, decimal-length}
 use native.Mathlib.Omega.{arith}
-use borrow.Author.Rules.{rules}
 use Rattle.listing.proofs.put_item.Goals as goal
 
 pub put_number-requires : goal.put_number-requires

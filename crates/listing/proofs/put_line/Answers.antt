@@ -1,7 +1,6 @@
 use Rattle.listing.specs.Laws.{put-put, decimal-fits, line-fits}
 use Rattle.listing.specs.Text.{number_line}
 use native.Mathlib.Omega.{arith}
-use borrow.Author.Rules.{rules}
 use Rattle.listing.proofs.put_line.Goals as goal
 
 pub put_number-c-requires : goal.put_number-c-requires

@@ -1,7 +1,6 @@
 use Rattle.listing.specs.Text.{opening}
 use Rattle.listing.specs.Laws.{put_holds}
 use native.Mathlib.Omega.{arith}
-use borrow.Author.Rules.{rules}
 use Rattle.listing.proofs.put_opening.Goals as goal
 
 pub returns : goal.returns

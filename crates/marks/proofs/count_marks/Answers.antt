@@ -11,7 +11,7 @@ use Rattle.column.specs.Meaning.{row_valid}
 use Rattle.column.proofs.ReachLaws.{spot-bare}
 use Rattle.column.proofs.SpotLaws.{found-lies, found-reach}
 use Rattle.column.specs.Truth.{reachable_at}
-use Rattle.marks.specs.MarkingLaws.{stands-mark, fits-bit, tally-none, tally-more, tally-room}
+use Rattle.marks.specs.MarkingLaws.{stands-mark, fits-bit, tally-empty, tally-more, tally-room}
 use Rattle.marks.proofs.AnswerLaws.{marks-unfit, marks-bad, marks-are}
 use Rattle.marks.proofs.count_marks.Goals as goal
 
@@ -19,7 +19,7 @@ pub returns-then-not-fits : goal.returns-then-not-fits
 returns-then-not-fits c = marks-unfit _ _ (sym c.fits.ensures ∙ c.if-not-fits.true)
 
 pub loop-k-init : goal.loop-k-init
-loop-k-init c = (omega arith, (tally-none _ _, λ r h. absurd (omega arith)))
+loop-k-init c = (tally-empty _ _ _ c.default-t.ensures, λ r h. absurd (omega arith))
 
 pub overflow_add-at : goal.overflow_add-at
 overflow_add-at c = let g = fits_gives _ _ _ _ _ _ (sym c.fits.ensures
@@ -33,7 +33,7 @@ spot_at-s-requires c = fits-row _ _ _ _ _ _ _ (sym c.fits.ensures
 pub returns-then-not-is_reached : goal.returns-then-not-is_reached
 returns-then-not-is_reached c = marks-bad _ _ (sym c.fits.ensures
     ∙ c.if-not-fits.false) _ (omega arith)
-    c.loop-k.invariant.1.1
+    c.loop-k.invariant.1
     (sym (found-reach _ _ _ _ _ _ _ (c.spot_at-s.ensures ∙ spot-bare _ _ _ _ _ _ _ _))
     ∙ sym c.is_reached.ensures ∙ c.if-not-is_reached.true)
 
@@ -47,18 +47,10 @@ add_there-t-requires c =
     let fit = sym c.fits.ensures
     ∙ c.if-not-fits.false in
     let g = fits_gives _ _ _ _ _ _ fit in (
-      found-lies _ _ c.args.nulls.now _ _ _ _
+      found-lies _ _ c.args.l.nulls.now _ _ _ _
           (c.spot_at-s.ensures ∙ spot-bare _ _ _ _ _ _ _ _) (fits-view _ _ _ _ _ _ fit (omega arith)),
-      tally-room _ _ _ _ c.loop-k.invariant.1.0 (omega arith),
+      tally-room _ _ _ _ c.loop-k.invariant.0 (omega arith),
     )
-
-pub overflow_add-k : goal.overflow_add-k
-overflow_add-k c = let g = fits_gives _ _ _ _ _ _ (sym c.fits.ensures
-    ∙ c.if-not-fits.false) in
-    omega (arith, row-limit-small)
-
-pub loop-k-smaller : goal.loop-k-smaller
-loop-k-smaller c = omega arith
 
 pub loop-k-preserved : goal.loop-k-preserved
 unfolding row_valid
@@ -66,16 +58,12 @@ loop-k-preserved c =
     let s = c.args in
     let stands = c.spot_at-s.ensures ∙ spot-bare _ _ _ _ _ _ _ _ in
     let reached = sym c.is_reached.ensures ∙ c.if-not-is_reached.false in (
-      omega arith,
-      (
-        tally-more _ _ _ _ _ _ c.loop-k.invariant.1.0
-            (stands-mark _ _ _ _ _ _ _ stands reached _ c.valid_at-valid.ensures) c.add_there-t.ensures,
-        below_more (λ (r : ℕ). reachable_at (lent_of s.views s.bytes s.starts s.lens s.nulls) s.c r ≡ true) _
-            c.loop-k.invariant.1.1 (sym (found-reach _ _ _ _ _ _ _ stands) ∙ reached),
-      ),
+      tally-more _ _ _ _ _ _ c.loop-k.invariant.0 (stands-mark _ _ _ _ _ _ _ stands reached _ c.valid_at-valid.ensures) c.add_there-t.ensures,
+      below_more (λ (r : ℕ). reachable_at (lent_of s.l) s.c r ≡ true) _ c.loop-k.invariant.1
+          (sym (found-reach _ _ _ _ _ _ _ stands) ∙ reached),
     )
 
 pub returns : goal.returns
 returns c = marks-are _ _ (sym c.fits.ensures
     ∙ c.if-not-fits.false) _ (omega arith)
-    c.loop-k.invariant.1.1 _ c.loop-k.invariant.1.0
+    c.loop-k.invariant.1 _ c.loop-k.invariant.0

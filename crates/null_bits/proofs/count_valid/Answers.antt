@@ -1,5 +1,3 @@
-use mathlib.Core.Path.{◌≡◌}
-use Prim.Native.Nat.{◌+◌, ◌*◌, ◌/◌, ◌%◌}
 use native.Mathlib.Omega.{arith}
 use Rattle.null_bits.specs.Bits.{count_valid}
 use Rattle.null_bits.proofs.CountLaws.{count-is}
@@ -9,12 +7,6 @@ use Rattle.null_bits.proofs.count_valid.Goals as goal
 pub returns-then-rows-eq0 : goal.returns-then-rows-eq0
 unfolding count_valid
 returns-then-rows-eq0 c = count-is _ _ _ _ (rw c.if-rows-eq0.true)
-
-pub returns-then-rows-head : goal.returns-then-rows-head
-returns-then-rows-head c =
-    let a = c.args in
-    let e : 8 * (a.first / 8) + a.first % 8 ≡ a.first = omega arith in
-    count-is _ _ _ _ (rw e at c.count_part.ensures.is)
 
 pub returns-then-tail-eq0 : goal.returns-then-tail-eq0
 returns-then-tail-eq0 c =

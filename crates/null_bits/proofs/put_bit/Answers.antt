@@ -1,30 +1,17 @@
 use Prim.Native.Nat.{◌%◌}
 use native.Mathlib.Nat.{zero-mul, add-zero}
 use lib.ListN.{get_or}
-use lib.Pow.{pow_pos}
 use Rattle.null_bits.specs.Bits.{put_bit}
-use Rattle.null_bits.proofs.Laws.{shl_one as shl-one-is, put-null, put-valid, put-fits}
+use Rattle.null_bits.proofs.Laws.{put-null, put-valid, put-fits}
 use Prim.Native.Nat.{◌/◌}
 use native.Mathlib.Omega.{arith}
 use Rattle.null_bits.proofs.put_bit.Goals as goal
-
-pub overflow_cast-kept : goal.overflow_cast-kept
-overflow_cast-kept c = omega (arith, c.type_inv.map (c.args.row / 8))
-
-pub overflow_sub-kept : goal.overflow_sub-kept
-overflow_sub-kept c = rw (shl-one-is (c.args.row % 8) (omega arith)) (pow_pos (c.args.row % 8))
 
 pub overflow_cast-map : goal.overflow_cast-map
 overflow_cast-map c =
     let a = c.args in
     rw (put-valid (get_or a.map.now (a.row / 8) 0) (a.row % 8) (omega arith))
     (record { fits = put-fits (get_or a.map.now (a.row / 8) 0) (a.row % 8) 1 (omega arith) (omega arith) })
-
-pub overflow_cast-map-else-valid : goal.overflow_cast-map-else-valid
-overflow_cast-map-else-valid c =
-    let a = c.args in
-    rw (put-null (get_or a.map.now (a.row / 8) 0) (a.row % 8) (omega arith))
-    (record { fits = omega (arith, put-fits (get_or a.map.now (a.row / 8) 0) (a.row % 8) 0 (omega arith) (omega arith)) })
 
 pub returns-then-valid : goal.returns-then-valid
 unfolding put_bit

@@ -1,13 +1,10 @@
 use Rattle.null_bits.specs.Bits.{valid_at}
 use Rattle.null_bits.proofs.valid_at.Goals as goal
 
-pub is_valid-requires : goal.is_valid-requires
-is_valid-requires c = c.requires c.if-mapped.true
-
-pub returns-then-mapped : goal.returns-then-mapped
+pub returns-then-not-mapped : goal.returns-then-not-mapped
 unfolding valid_at
-returns-then-mapped c = rw c.if-mapped.true c.is_valid.ensures
+returns-then-not-mapped c = rw c.if-not-mapped.true
 
-pub returns : goal.returns
+pub returns-else-not-mapped : goal.returns-else-not-mapped
 unfolding valid_at
-returns c = rw c.if-mapped.false
+returns-else-not-mapped c = rw c.if-not-mapped.false c.is_valid.ensures

@@ -1,6 +1,5 @@
 -- `numbers::column_numbers` meets its contract. Assumes nothing.
 use Rattle.numbers.specs.Laws.{column-numbers-are}
-use borrow.Author.Rules.{rules}
 use Rattle.numbers.proofs.column_numbers.Goals as goal
 
 pub returns : goal.returns

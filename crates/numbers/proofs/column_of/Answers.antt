@@ -1,6 +1,5 @@
 -- `numbers::column_of` meets its contract. Assumes nothing.
 use Rattle.numbers.specs.Laws.{column-is}
-use borrow.Author.Rules.{rules}
 use Rattle.numbers.proofs.column_of.Goals as goal
 
 pub returns : goal.returns

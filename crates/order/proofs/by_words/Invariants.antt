@@ -1,12 +1,9 @@
--- `order::by_words` meets its contract. Assumes nothing.
-use mathlib.Core.Path.{◌≡◌}
-use lib.ListN.{length}
-use Prim.Native.Nat.{◌-◌, ◌≤◌, min}
+use Prim.Native.Nat.{◌-◌, ◌≤◌}
 use Rattle.order.specs.Order.{Agree}
 use Rattle.order.proofs.by_words.Given as goal
 
 abbrev pub invariant-loop-i : goal.invariant-loop-i
-invariant-loop-i l = (l.n ≡ min (length l.a) (length l.b)) × (l.i ≤ l.n) × Agree l.a l.b 0 l.i
+invariant-loop-i l = (l.i ≤ l.n) × Agree l.a l.b 0 l.i
 
 abbrev pub decreases-loop-i : goal.decreases-loop-i
 decreases-loop-i l = l.n - l.i

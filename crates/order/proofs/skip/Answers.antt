@@ -1,18 +1,8 @@
 use Rattle.order.proofs.Laws.{agree-next}
-use borrow.Author.Rules.{rules}
+use native.Mathlib.Omega.{arith}
 use Rattle.order.proofs.skip.Goals as goal
-
-pub loop-i-init : goal.loop-i-init
-loop-i-init c = (search rules, search rules, search rules, search rules, search rules)
 
 pub loop-i-preserved : goal.loop-i-preserved
 loop-i-preserved c =
-    let s = c.args in
-    let l = c.loop-i in (
-      search rules,
-      search rules,
-      search rules,
-      search rules,
-      agree-next s.a.now s.b.now l.i s.m l.invariant.4 (c.same_run.ensures.0
-          (c.if-not-same_run.false)),
-    )
+    let l = c.loop-i in
+    (omega arith, agree-next c.args.a.now c.args.b.now l.i c.args.m l.invariant.1 (c.same_run.ensures.0 c.if-same_run.true))

@@ -12,18 +12,18 @@ use Rattle.reading.proofs.locate.Goals as goal
 pub returns-then-not-fits : goal.returns-then-not-fits
 returns-then-not-fits c = located-no _ _ _ Fit (value-unfit _ _ _ (sym c.fits.ensures ∙ c.if-not-fits.true))
 
-pub returns-then-rows-row : goal.returns-then-rows-row
-returns-then-rows-row c = located-no _ _ _ Row (value-past _ _ _ (sym c.fits.ensures ∙ c.if-not-fits.false) c.if-rows-row.true)
+pub returns-then-c-row : goal.returns-then-c-row
+returns-then-c-row c = located-no _ _ _ Row (value-past _ _ _ (sym c.fits.ensures ∙ c.if-not-fits.false) c.if-c-row.true)
 
-pub overflow_add-at : goal.overflow_add-at
-overflow_add-at c = let g = fits_gives _ _ _ _ _ _ (sym c.fits.ensures ∙ c.if-not-fits.false) in
+pub overflow_add-c : goal.overflow_add-c
+overflow_add-c c = let g = fits_gives _ _ _ _ _ _ (sym c.fits.ensures ∙ c.if-not-fits.false) in
     omega (arith, row-limit-small)
 
 pub spot_at-requires : goal.spot_at-requires
 spot_at-requires c = fits-row _ _ _ _ _ _ _ (sym c.fits.ensures ∙ c.if-not-fits.false)
-    c.if-rows-row.false
+    c.if-c-row.false
 
 pub returns : goal.returns
 returns c = located-is _ _ _ (sym c.fits.ensures
-    ∙ c.if-not-fits.false) c.if-rows-row.false _ _ (c.spot_at.ensures
+    ∙ c.if-not-fits.false) c.if-c-row.false _ _ (c.spot_at.ensures
     ∙ spot-bare _ _ _ _ _ _ _ _) c.judged.ensures

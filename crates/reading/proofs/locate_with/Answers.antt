@@ -16,20 +16,13 @@ returns-then-not-fits_with c = (
       ∙ c.if-not-fits_with.true)),
 )
 
-pub returns-then-rows-row : goal.returns-then-rows-row
+pub returns-then-c-row : goal.returns-then-c-row
 unfolding LiesAt
-returns-then-rows-row c = (
+returns-then-c-row c = (
   tt,
   λ table sees. located-no _ _ _ Row (value-past _ _ _ (sym (c.fits_with.ensures.1 _ table sees.count)
-      ∙ c.if-not-fits_with.false) c.if-rows-row.true),
+      ∙ c.if-not-fits_with.false) c.if-c-row.true),
 )
-
-pub overflow_add-at : goal.overflow_add-at
-overflow_add-at c = let g = c.fits_with.ensures.0 (c.if-not-fits_with.false) in omega arith
-
-pub spot_with-requires : goal.spot_with-requires
-spot_with-requires c = let g = c.fits_with.ensures.0
-    (c.if-not-fits_with.false) in omega arith
 
 pub returns : goal.returns
 returns c =
@@ -37,6 +30,6 @@ returns c =
       judged-lies _ _ _ _ _ c.judged.ensures (spot-lies _ _ _ _ _ _ _ c.room_of.ensures c.spot_with.ensures
           (omega arith)),
       λ table sees. located-is _ _ _ (sym (c.fits_with.ensures.1 _ table sees.count) ∙ c.if-not-fits_with.false)
-          c.if-rows-row.false _ _ (spot_is _ _ _ _ _ _ _ c.room_of.ensures
+          c.if-c-row.false _ _ (spot_is _ _ _ _ _ _ _ c.room_of.ensures
           c.spot_with.ensures table _ (λ l h. sees.block (omega arith))) c.judged.ensures,
     )

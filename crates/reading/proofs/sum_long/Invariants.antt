@@ -2,14 +2,11 @@
 use mathlib.Core.Bool.{false}
 use mathlib.Core.List.{[]}
 use mathlib.Core.Path.{◌≡◌}
-use Prim.Native.Nat.{◌≤◌, ◌-◌, ◌*◌}
+use Prim.Native.Nat.{◌≤◌, ◌*◌}
 use Rattle.column.specs.Lent.{buffers}
 use Rattle.reading.specs.Reading.{buffer_bytes}
 use Rattle.reading.specs.TotalLaws.{rows_only}
 use Rattle.reading.proofs.sum_long.Given as goal
 
 abbrev pub invariant-loop-k : goal.invariant-loop-k
-invariant-loop-k l = (l.k ≤ l.rows) × ((l.sum ≡ buffer_bytes (buffers l.views [] [] []) (rows_only false l.first) l.k) × (l.sum ≤ 4294967296 * l.k))
-
-abbrev pub decreases-loop-k : goal.decreases-loop-k
-decreases-loop-k l = l.rows - l.k
+invariant-loop-k l = (l.sum ≡ buffer_bytes (buffers l.views [] [] []) (rows_only false l.first) l.k) × (l.sum ≤ 4294967296 * l.k)

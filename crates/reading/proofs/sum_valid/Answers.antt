@@ -1,24 +1,14 @@
 -- `reading::sum_valid` meets its contract. Assumes nothing.
-use mathlib.Core.Path.{◌≡◌}
 use native.Mathlib.Omega.{arith}
 use Rattle.bounds.specs.Bounds.{row-limit-small}
 use Rattle.reading.specs.TotalLaws.{bytes-none, bytes-more}
 use Rattle.reading.proofs.sum_valid.Goals as goal
 
 pub loop-k-init : goal.loop-k-init
-loop-k-init c = (omega arith, (bytes-none _ _, omega arith))
-
-pub overflow_add-first : goal.overflow_add-first
-overflow_add-first c = omega (arith, row-limit-small)
-
-pub valid_bytes-sum-requires : goal.valid_bytes-sum-requires
-valid_bytes-sum-requires c = (omega arith, λ m. let b = c.requires.bits m in omega arith)
+loop-k-init c = (bytes-none _ _, omega arith)
 
 pub overflow_add-sum : goal.overflow_add-sum
 overflow_add-sum c = omega (arith, row-limit-small)
 
 pub loop-k-preserved : goal.loop-k-preserved
-loop-k-preserved c = (omega arith, (bytes-more _ _ _ _ _ c.loop-k.invariant.1.0 c.valid_bytes-sum.ensures.0, omega arith))
-
-pub returns : goal.returns
-returns c = let e : c.loop-k.k ≡ c.args.rows = omega arith in rw (← e) c.loop-k.invariant.1.0
+loop-k-preserved c = (bytes-more _ _ _ _ _ c.loop-k.invariant.0 c.valid_bytes-sum.ensures.0, omega arith)

@@ -4,11 +4,11 @@ use Rattle.reading.proofs.LocatedLaws.{located-points, located-lies, located-byt
 use Rattle.reading.proofs.value.Goals as goal
 
 pub part_of-requires : goal.part_of-requires
-part_of-requires c = located-lies _ _ _ _ _ _ _ c.locate-l.ensures
+part_of-requires c = located-lies _ _ _ _ _ _ _ c.locate-s.ensures
 
 pub returns : goal.returns
 returns c = (
-  c.part_of.ensures.0 ∙ located-bytes _ _ _ _ _ _ _ c.locate-l.ensures,
+  c.part_of.ensures.0 ∙ located-bytes _ _ _ _ _ _ _ c.locate-s.ensures,
   located-points _ _ _ _ _ _ _
-      c.locate-l.ensures c.part_of.ensures.1,
+      c.locate-s.ensures c.part_of.ensures.1,
 )

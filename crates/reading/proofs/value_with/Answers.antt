@@ -3,9 +3,6 @@ use mathlib.Core.Path.{◌∙◌}
 use Rattle.reading.proofs.LocatedLaws.{located-points, located-bytes}
 use Rattle.reading.proofs.value_with.Goals as goal
 
-pub part_of-requires : goal.part_of-requires
-part_of-requires c = c.locate_with-l.ensures.0
-
 pub returns : goal.returns
 returns c = λ table sees. (
   c.part_of.ensures.0 ∙ located-bytes _ _ _ _ _ _ _ (c.locate_with-l.ensures.1 table sees),

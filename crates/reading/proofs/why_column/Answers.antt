@@ -3,8 +3,8 @@ use mathlib.Core.Path.{sym, ◌∙◌}
 use Rattle.reading.proofs.ReadingLaws.{column-unfit, column-fit}
 use Rattle.reading.proofs.why_column.Goals as goal
 
-pub returns-then-not-fits : goal.returns-then-not-fits
-returns-then-not-fits c = column-unfit _ _ (sym c.fits.ensures ∙ c.if-not-fits.true)
+pub returns-else-fits : goal.returns-else-fits
+returns-else-fits c = column-unfit _ _ (sym c.fits.ensures ∙ c.if-fits.false)
 
-pub returns : goal.returns
-returns c = column-fit _ _ (sym c.fits.ensures ∙ c.if-not-fits.false)
+pub returns-then-fits : goal.returns-then-fits
+returns-then-fits c = column-fit _ _ (sym c.fits.ensures ∙ c.if-fits.true)

@@ -7,11 +7,8 @@ use Rattle.reading.proofs.why_run.Goals as goal
 pub returns-then-not-fits : goal.returns-then-not-fits
 returns-then-not-fits c = run-unfit _ _ _ _ (sym c.fits.ensures ∙ c.if-not-fits.true)
 
-pub returns-then-rows-start : goal.returns-then-rows-start
-returns-then-rows-start c = run_past _ _ _ _ (sym c.fits.ensures ∙ c.if-not-fits.false) (omega arith)
-
-pub returns-then-rows-start-2 : goal.returns-then-rows-start-2
-returns-then-rows-start-2 c = run_past _ _ _ _ (sym c.fits.ensures ∙ c.if-not-fits.false) (omega arith)
+pub returns-then-c-start : goal.returns-then-c-start
+returns-then-c-start c = run_past _ _ _ _ (sym c.fits.ensures ∙ c.if-not-fits.false) (grind arith)
 
 pub returns : goal.returns
 returns c = run-within _ _ _ _ (sym c.fits.ensures ∙ c.if-not-fits.false) (omega arith)

@@ -1,50 +1,24 @@
-use Prim.Native.Nat.{◌-◌, ◌≤◌}
-use lib.ListN.{length, drop}
-use Rattle.shelf.specs.LineLaws.{line_first, line-next, line-end, bad-here, bad-later, bad-none}
-use Rattle.shelf.specs.Lines.{lines, is_bad_line, says, first_bad_line}
-use mathlib.Core.Path.{◌≡◌, refl, sym, ap, ◌∙◌}
-use native.Mathlib.Omega.{arith}
-use borrow.Author.Rules.{rules}
+use Rattle.std.specs.Prelude.{◌≡◌, ◌+◌, ℕ}
+use Rattle.std.proofs.Common.{rules, tests, arith, refl, sym, ap, ◌∙◌, inl, length, get_or}
+use Rattle.std.proofs.lemmas.Iterator.Consumers.{YieldsList-from_first}
+use Rattle.std.proofs.lemmas.Iterator.Search.{position_from_yields_List}
+use Rattle.shelf.specs.Lines.{lines, says, is_bad_line}
+use Rattle.shelf.proofs.BadLaws.{lines_few, bad_in, numbered, bad_place}
 use Rattle.shelf.proofs.first_bad.Goals as goal
 
-pub loop-at-init : goal.loop-at-init
-loop-at-init c = (omega arith, omega arith, refl)
-
-pub line_end-e-requires : goal.line_end-e-requires
-line_end-e-requires c = omega arith
-
-pub slice_bounds-says-count : goal.slice_bounds-says-count
-slice_bounds-says-count c = omega arith
+pub position-requires-clause-fits : goal.position-requires-clause-fits
+position-requires-clause-fits c = inl (omega (arith, lines_few c.args.s.now))
 
 pub overflow_add-result : goal.overflow_add-result
-overflow_add-result c = omega arith
+overflow_add-result c = let h = rw c.in-Some.is at c.position.ensures.bound in omega (arith, lines_few c.args.s.now, h)
 
-pub returns-then-bad : goal.returns-then-bad
-returns-then-bad c =
-    let s = c.args.s.now in sym (bad-here _ _ _ (ap is_bad_line (sym c.says.ensures) ∙ (sym c.bad.ensures
-    ∙ c.if-bad.true))) ∙ (ap (first_bad_line c.loop-at.n) (sym (line_first s c.loop-at.at c.line_end-e.result
-    (omega arith) c.line_end-e.ensures.0)) ∙ c.loop-at.invariant.2)
+pub returns-in-Some : goal.returns-in-Some
+returns-in-Some c =
+    let h = position_from_yields_List bad_in c.position.new.self _ c.position.result c.position.ensures.ran (YieldsList-from_first (λ b. b.now) (λ s. lines s.rest.now) {s = record { rest = c.args.s }} (lines c.args.s.now) refl) (λ x b q k. search (rules, tests)) in
+    let k : c.in-Some.k + 1 ≡ 0 + c.in-Some.k + 1 = omega arith in
+    k ∙ (ap (numbered 0) (sym c.in-Some.is) ∙ bad_place 0 (lines c.args.s.now) c.position.result h)
 
-pub overflow_add-n : goal.overflow_add-n
-overflow_add-n c = omega arith
-
-pub after-at-requires : goal.after-at-requires
-after-at-requires c = omega arith
-
-pub loop-at-smaller : goal.loop-at-smaller
-loop-at-smaller c = omega arith
-
-pub loop-at-preserved : goal.loop-at-preserved
-loop-at-preserved c =
-    let s = c.args.s.now in (
-      omega arith,
-      omega arith,
-      sym (bad-later _ _ _ (ap is_bad_line (sym c.says.ensures)
-          ∙ (sym c.bad.ensures ∙ c.if-bad.false)))
-          ∙ (ap (first_bad_line c.loop-at.n) (sym (line-next s c.loop-at.at c.line_end-e.result c.after-at.result (omega arith)
-          c.line_end-e.ensures.0 c.after-at.ensures.2 c.after-at.ensures.3)) ∙ c.loop-at.invariant.2),
-    )
-
-pub returns : goal.returns
-returns c = let s = c.args.s.now in sym (bad-none c.loop-at.n)
-    ∙ (ap (first_bad_line c.loop-at.n) (sym (line-end s c.loop-at.at (omega arith))) ∙ c.loop-at.invariant.2)
+pub returns-in-None : goal.returns-in-None
+returns-in-None c =
+    let h = position_from_yields_List bad_in c.position.new.self _ c.position.result c.position.ensures.ran (YieldsList-from_first (λ b. b.now) (λ s. lines s.rest.now) {s = record { rest = c.args.s }} (lines c.args.s.now) refl) (λ x b q k. search (rules, tests)) in
+    ap (numbered 0) (sym c.in-None.is) ∙ bad_place 0 (lines c.args.s.now) c.position.result h

@@ -1,18 +1,18 @@
-use Rattle.shelf.proofs.SaysLaws.{says-short, says-code, says-null, says-bad}
-use mathlib.Core.Path.{sym, ◌∙◌}
-use borrow.Author.Rules.{rules}
+use Rattle.std.proofs.Common.{rules, sym, ◌∙◌}
+use Rattle.std.specs.Cmp.Lexicographic.{same_text, other_text}
+use Rattle.order.proofs.OrderLaws.{same-yes, same-no}
+use Rattle.shelf.proofs.SaysLaws.{says-code, says-null, says-bad}
 use Rattle.shelf.proofs.says.Goals as goal
 
-pub returns-then-line-lt5 : goal.returns-then-line-lt5
-returns-then-line-lt5 c = says-short _ c.if-line-lt5.true
+pub returns-then-starts_with : goal.returns-then-starts_with
+returns-then-starts_with c = says-code _ (same-yes _ _ (sym (same_text _ _ (sym c.if-starts_with.true ∙ c.starts_with.ensures.value))))
 
-pub returns-then-same : goal.returns-then-same
-returns-then-same c = says-code _ (sym c.same.ensures ∙ c.if-same.true)
+pub returns-then-eq : goal.returns-then-eq
+returns-then-eq c =
+    says-null _ (same-no _ _ (λ e. other_text _ _ (sym c.if-starts_with.false ∙ c.starts_with.ensures.value) (sym e)))
+    (same-yes _ _ (same_text _ _ (sym c.if-eq.true ∙ c.eq.ensures) ∙ c.as_slice.ensures))
 
-pub returns-then-same-2 : goal.returns-then-same-2
-returns-then-same-2 c = says-null _ (sym c.same.ensures ∙ c.if-same.false)
-    (sym c.same-2.ensures ∙ c.if-same-2.true)
-
-pub returns : goal.returns
-returns c = says-bad _ (sym c.same.ensures ∙ c.if-same.false)
-    (sym c.same-2.ensures ∙ c.if-same-2.false)
+pub returns-else-eq : goal.returns-else-eq
+returns-else-eq c =
+    says-bad _ (same-no _ _ (λ e. other_text _ _ (sym c.if-starts_with.false ∙ c.starts_with.ensures.value) (sym e)))
+    (same-no _ _ (λ e. other_text _ _ (sym c.if-eq.false ∙ c.eq.ensures) (e ∙ sym c.as_slice.ensures)))

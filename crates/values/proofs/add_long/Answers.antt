@@ -7,121 +7,116 @@ use Rattle.builder.proofs.PutLaws.{row_lt, free-lt, room-rows, room-used, room-f
 use Rattle.builder.proofs.CallLaws.{bytes-room-le, does-row, lay-is, does-lay}
 use Rattle.bounds.specs.Bounds.{row-limit-small, block-limit-small, byte-limit-small}
 use Rattle.bounds.specs.Refusals.{is_accepted}
-use mathlib.Core.Path.{sym, ap, ◌∙◌}
+use Rattle.merging.specs.Table.{is_row, row_of}
+use Rattle.merging.specs.declared.Found.{Found}
+use Rattle.merging.specs.declared.Found.TheVariants.{Row, Free, Full}
+use Rattle.std.specs.Prelude.{false, ◌≡◌, ℕ}
+use mathlib.Core.Path.{refl, sym, ap, ◌∙◌}
 use native.Mathlib.Omega.{arith}
 use Rattle.values.proofs.add_long.Goals as goal
 
+no_row : (f : Found) → ((r : ℕ) → f ≡ Row r → ⊥) → is_row f ≡ false
+no_row (Row r) h = absurd (h r refl)
+no_row (Free p) h = refl
+no_row Full h = refl
+
 pub find-f-requires : goal.find-f-requires
 find-f-requires c =
-    let a = c.args in
-    let f = fits_gives a.s a.views.now a.bytes.now a.starts.now a.lens.now a.nulls.now a.places.now c.requires.0.fit in
-    (ready a.s a.views.now a.bytes.now a.starts.now a.lens.now a.nulls.now a.places.now f, c.requires.1)
+    let f = fits_gives _ _ _ _ _ _ _ c.requires.0.fit in
+    (ready _ _ _ _ _ _ _ f, c.requires.1)
 
 pub copy_view-requires : goal.copy_view-requires
 copy_view-requires c =
-    let a = c.args in
-    let f = fits_gives a.s a.views.now a.bytes.now a.starts.now a.lens.now a.nulls.now a.places.now c.requires.0.fit in
-    let g = room-gives a.s a.views.now a.bytes.now a.starts.now a.lens.now a.nulls.now a.places.now c.requires.0.room in
-    let r = row_lt _ _ _ _ _ _ c.find-f.ensures (sym c.is_row.ensures
-    ∙ c.if-is_row.true) in
-    (omega (arith, r, c.row_of.ensures, f.views), g.views)
+    let f = fits_gives _ _ _ _ _ _ _ c.requires.0.fit in
+    let g = room-gives _ _ _ _ _ _ _ c.requires.0.room in
+    let r = rw c.in-Row.is at (row_lt _ _ _ _ _ _ c.find-f.ensures (ap is_row c.in-Row.is)) in
+    (omega (arith, r, f.views), g.views)
 
 pub put_bit-requires : goal.put_bit-requires
 put_bit-requires c =
-    let a = c.args in
-    let g = room-gives a.s a.views.now a.bytes.now a.starts.now a.lens.now a.nulls.now a.places.now c.requires.0.room in
-    g.bits
+    (room-gives _ _ _ _ _ _ _ c.requires.0.room).bits
 
-pub row_more-t-requires : goal.row_more-t-requires
-row_more-t-requires c =
-    let a = c.args in
-    let g = room-gives a.s a.views.now a.bytes.now a.starts.now a.lens.now a.nulls.now a.places.now c.requires.0.room in
-    g.rows
+pub row_more-requires : goal.row_more-requires
+row_more-requires c =
+    (room-gives _ _ _ _ _ _ _ c.requires.0.room).rows
 
-pub returns-then-is_row : goal.returns-then-is_row
-returns-then-is_row c =
-    does-row _ _ _ _ _ _ _ _ _ c.requires.0.fit c.find-f.ensures c.requires.1 _ _ c.is_row.ensures c.if-is_row.true
-    c.row_of.ensures c.row_more-t.ensures c.copy_view.ensures
+pub returns-in-Row : goal.returns-in-Row
+returns-in-Row c =
+    does-row _ _ _ _ _ _ _ _ _ c.requires.0.fit c.find-f.ensures c.requires.1 _ _ (ap is_row (sym c.in-Row.is)) refl
+    (ap row_of (sym c.in-Row.is)) c.row_more.ensures c.copy_view.ensures
     c.put_bit.ensures
 
 pub why_lay-w-requires : goal.why_lay-w-requires
 why_lay-w-requires c =
-    let a = c.args in
-    let f = fits_gives a.s a.views.now a.bytes.now a.starts.now a.lens.now a.nulls.now a.places.now c.requires.0.fit in
+    let f = fits_gives _ _ _ _ _ _ _ c.requires.0.fit in
     (omega (arith, f.blocks, block-limit-small), omega (arith, f.small, c.requires.0.small, byte-limit-small))
 
-pub returns-then-not-is_accepted : goal.returns-then-not-is_accepted
-returns-then-not-is_accepted c =
+pub returns-then-is_err : goal.returns-then-is_err
+returns-then-is_err c =
     does-no _ _ _ _ _ _ _ _ _ _ (lay-is _ _ _ _ _ _ _ _ _ c.requires.0.fit
     c.find-f.ensures c.requires.1 _
-    c.is_row.ensures c.if-is_row.false _ _ _
+    refl (no_row _ c.in_default.not-Row) _ _ _
     c.blocks_room.ensures c.bytes_room.ensures
-    c.why_lay-w.ensures) (sym c.is_accepted.ensures ∙ c.if-not-is_accepted.true)
+    c.why_lay-w.ensures) c.if-is_err.ensures.negation
 
 pub enter-requires : goal.enter-requires
 enter-requires c =
-    let a = c.args in
-    let g = room-gives a.s a.views.now a.bytes.now a.starts.now a.lens.now a.nulls.now a.places.now c.requires.0.room in
+    let g = room-gives _ _ _ _ _ _ _ c.requires.0.room in
     (g.rows, free-lt _ _ _ _ _ _ c.find-f.ensures)
 
 pub make_room-t-requires : goal.make_room-t-requires
 make_room-t-requires c =
-    let a = c.args in
-    let f = fits_gives a.s a.views.now a.bytes.now a.starts.now a.lens.now a.nulls.now a.places.now c.requires.0.fit in
+    let f = fits_gives _ _ _ _ _ _ _ c.requires.0.fit in
     (f.starts, f.lens, omega (arith, f.small, c.requires.0.small, byte-limit-small), f.growth)
 
-pub overflow_add-base : goal.overflow_add-base
-overflow_add-base c =
+pub overflow_add-t : goal.overflow_add-t
+overflow_add-t c =
     let a = c.args in
-    let f = fits_gives a.s a.views.now a.bytes.now a.starts.now a.lens.now a.nulls.now a.places.now c.requires.0.fit in
+    let f = fits_gives _ _ _ _ _ _ _ c.requires.0.fit in
     let u = ap used c.make_room-t.ensures.0 ∙ room-used a.s (length a.x.now) in
     omega (arith, u, f.small, byte-limit-small)
 
 pub lay-requires : goal.lay-requires
 lay-requires c =
     let a = c.args in
-    let f = fits_gives a.s a.views.now a.bytes.now a.starts.now a.lens.now a.nulls.now a.places.now c.requires.0.fit in
+    let f = fits_gives _ _ _ _ _ _ _ c.requires.0.fit in
     let u = ap used c.make_room-t.ensures.0 ∙ room-used a.s (length a.x.now) in
-    let k = lay-room _ _ _ _ (ap is_accepted (sym c.why_lay-w.ensures) ∙ sym c.is_accepted.ensures ∙ c.if-not-is_accepted.false) in
+    let k = lay-room _ _ _ _ (ap is_accepted (sym c.why_lay-w.ensures) ∙ c.if-is_err.ensures.negation) in
     omega (arith, u, k, c.bytes_room.ensures, bytes-room-le (length a.bytes.now))
 
 pub overflow_mul-rows : goal.overflow_mul-rows
 overflow_mul-rows c =
-    let a = c.args in
-    let g = room-gives a.s a.views.now a.bytes.now a.starts.now a.lens.now a.nulls.now a.places.now c.requires.0.room in
+    let g = room-gives _ _ _ _ _ _ _ c.requires.0.room in
     omega (arith, g.rows, row-limit-small)
 
-pub overflow_cast-block : goal.overflow_cast-block
-overflow_cast-block c =
+pub overflow_cast-t : goal.overflow_cast-t
+overflow_cast-t c =
     let a = c.args in
-    let f = fits_gives a.s a.views.now a.bytes.now a.starts.now a.lens.now a.nulls.now a.places.now c.requires.0.fit in
+    let f = fits_gives _ _ _ _ _ _ _ c.requires.0.fit in
     let u = ap (λ (z : State). z.blocks) c.make_room-t.ensures.0 in
     omega (arith, u, room-blocks a.s (length a.x.now), f.blocks, block-limit-small)
 
-pub overflow_cast-fill : goal.overflow_cast-fill
-overflow_cast-fill c =
+pub overflow_cast-t-2 : goal.overflow_cast-t-2
+overflow_cast-t-2 c =
     let a = c.args in
-    let f = fits_gives a.s a.views.now a.bytes.now a.starts.now a.lens.now a.nulls.now a.places.now c.requires.0.fit in
+    let f = fits_gives _ _ _ _ _ _ _ c.requires.0.fit in
     let u = ap (λ (z : State). z.fill) c.make_room-t.ensures.0 in
     omega (arith, u, room-fill a.s (length a.x.now), f.small, byte-limit-small)
 
 pub long_view-requires : goal.long_view-requires
 long_view-requires c =
-    let a = c.args in
-    let g = room-gives a.s a.views.now a.bytes.now a.starts.now a.lens.now a.nulls.now a.places.now c.requires.0.room in
+    let g = room-gives _ _ _ _ _ _ _ c.requires.0.room in
     (g.views, omega (arith, c.requires.1), omega (arith, c.requires.0.small, byte-limit-small))
 
 pub put_bit-requires-2 : goal.put_bit-requires-2
 put_bit-requires-2 c =
-    let a = c.args in
-    let g = room-gives a.s a.views.now a.bytes.now a.starts.now a.lens.now a.nulls.now a.places.now c.requires.0.room in
-    g.bits
+    (room-gives _ _ _ _ _ _ _ c.requires.0.room).bits
 
-pub stored-u-requires : goal.stored-u-requires
-stored-u-requires c =
+pub stored-requires : goal.stored-requires
+stored-requires c =
     let a = c.args in
-    let f = fits_gives a.s a.views.now a.bytes.now a.starts.now a.lens.now a.nulls.now a.places.now c.requires.0.fit in
-    let g = room-gives a.s a.views.now a.bytes.now a.starts.now a.lens.now a.nulls.now a.places.now c.requires.0.room in
+    let f = fits_gives _ _ _ _ _ _ _ c.requires.0.fit in
+    let g = room-gives _ _ _ _ _ _ _ c.requires.0.room in
     let u = ap (λ (z : State). z.rows) c.make_room-t.ensures.0 in
     let v = ap (λ (z : State). z.fill) c.make_room-t.ensures.0 in (
       omega (arith, u, room-rows a.s (length a.x.now), g.rows),
@@ -137,10 +132,8 @@ stored-u-requires c =
 
 pub returns : goal.returns
 returns c =
-    let a = c.args in
-    let f = fits_gives a.s a.views.now a.bytes.now a.starts.now a.lens.now a.nulls.now a.places.now c.requires.0.fit in
-    does-lay _ _ _ _ _ _ _ _ _ c.requires.0.fit c.find-f.ensures c.requires.1 _ c.is_row.ensures c.if-is_row.false _ _ _
-    c.blocks_room.ensures c.bytes_room.ensures c.why_lay-w.ensures _ (sym c.is_accepted.ensures
-    ∙ c.if-not-is_accepted.false) f.starts f.lens c.make_room-t.ensures.0 c.stored-u.ensures
+    let f = fits_gives _ _ _ _ _ _ _ c.requires.0.fit in
+    does-lay _ _ _ _ _ _ _ _ _ c.requires.0.fit c.find-f.ensures c.requires.1 _ refl (no_row _ c.in_default.not-Row) _ _ _
+    c.blocks_room.ensures c.bytes_room.ensures c.why_lay-w.ensures _ c.if-is_err.ensures.negation f.starts f.lens c.make_room-t.ensures.0 c.stored.ensures
     c.long_view.ensures c.lay.ensures c.make_room-t.ensures.1
     c.make_room-t.ensures.2 c.put_bit-2.ensures c.enter.ensures

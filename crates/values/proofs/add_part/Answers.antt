@@ -11,16 +11,15 @@ use mathlib.Core.Path.{sym, ◌∙◌}
 use native.Mathlib.Omega.{arith}
 use Rattle.values.proofs.add_part.Goals as goal
 
-pub overflow_mul-rows : goal.overflow_mul-rows
-overflow_mul-rows c =
-    let a = c.args in
-    let g = room-gives a.s a.views.now a.bytes.now a.starts.now a.lens.now a.nulls.now a.places.now c.requires.0.room in
+pub overflow_mul-s : goal.overflow_mul-s
+overflow_mul-s c =
+    let g = room-gives _ _ _ _ _ _ _ c.requires.0.room in
     omega (arith, g.rows, row-limit-small)
 
 pub short_view_in-requires : goal.short_view_in-requires
 short_view_in-requires c =
     let a = c.args in
-    let g = room-gives a.s a.views.now a.bytes.now a.starts.now a.lens.now a.nulls.now a.places.now c.requires.0.room in
+    let g = room-gives _ _ _ _ _ _ _ c.requires.0.room in
     let y = sym c.is_short_in.ensures ∙ c.if-is_short_in.true in
     let n = leb-true (a.e - a.a) short_most (and_left (leb (a.e - a.a) short_most) _ y) in
     let l = leb-true short_most (length a.all.now - a.a) (and_right (leb (a.e - a.a) short_most) _ y) in
@@ -28,15 +27,11 @@ short_view_in-requires c =
 
 pub put_bit-requires : goal.put_bit-requires
 put_bit-requires c =
-    let a = c.args in
-    let g = room-gives a.s a.views.now a.bytes.now a.starts.now a.lens.now a.nulls.now a.places.now c.requires.0.room in
-    g.bits
+    (room-gives _ _ _ _ _ _ _ c.requires.0.room).bits
 
-pub row_more-t-requires : goal.row_more-t-requires
-row_more-t-requires c =
-    let a = c.args in
-    let g = room-gives a.s a.views.now a.bytes.now a.starts.now a.lens.now a.nulls.now a.places.now c.requires.0.room in
-    g.rows
+pub row_more-requires : goal.row_more-requires
+row_more-requires c =
+    (room-gives _ _ _ _ _ _ _ c.requires.0.room).rows
 
 pub returns-then-is_short_in : goal.returns-then-is_short_in
 returns-then-is_short_in c =
@@ -46,5 +41,5 @@ returns-then-is_short_in c =
     let n = leb-true (a.e - a.a) short_most (and_left (leb (a.e - a.a) short_most) _ y) in
     let x = take (a.e - a.a) (drop a.a a.all.now) in
     does-short a.s a.views.now a.bytes.now a.starts.now a.lens.now a.nulls.now a.places.now x
-    (omega (arith, n, length-take (a.e - a.a) (drop a.a a.all.now))) c.row_more-t.ensures
+    (omega (arith, n, length-take (a.e - a.a) (drop a.a a.all.now))) c.row_more.ensures
     c.short_view_in.ensures c.put_bit.ensures

@@ -8,26 +8,8 @@ use mathlib.Core.Path.{◌≡◌, refl, ap, ◌∙◌}
 use native.Mathlib.Omega.{arith}
 use Rattle.values.proofs.copy_rows.Goals as goal
 
-pub overflow_mul-p : goal.overflow_mul-p
-overflow_mul-p c = omega (arith, c.requires)
-
-pub le64-lo-requires : goal.le64-lo-requires
-le64-lo-requires c = omega (arith, c.requires)
-
-pub overflow_add-p : goal.overflow_add-p
-overflow_add-p c = omega (arith, c.requires)
-
-pub le64-hi-requires : goal.le64-hi-requires
-le64-hi-requires c = omega (arith, c.requires)
-
 pub loop-k-init : goal.loop-k-init
-loop-k-init c = (omega arith, refl, c.le64-lo.ensures, c.le64-hi.ensures, copies-none _ _ _)
-
-pub overflow_add-to : goal.overflow_add-to
-overflow_add-to c = omega (arith, c.requires)
-
-pub put_words-requires : goal.put_words-requires
-put_words-requires c = omega (arith, c.requires, c.loop-k.invariant.1)
+loop-k-init c = (refl, c.le64-lo.ensures, c.le64-hi.ensures, copies-none _ _ _)
 
 pub loop-k-preserved : goal.loop-k-preserved
 loop-k-preserved c =
@@ -36,21 +18,12 @@ loop-k-preserved c =
     let l = c.loop-k in
     let v = view_at a.views.now a.from in
     let two = put_two l.views a.views.now (16 * (a.to + l.k)) (16 * a.from) _ _ (λ j. (c.slice_known-1.given j).fits)
-    (omega (arith, p)) (omega (arith, p)) l.invariant.2 l.invariant.3 in
+    (omega (arith, p)) (omega (arith, p)) l.invariant.1 l.invariant.2 in
     let step : c.put_words.new.views ≡ put_copies a.views.now a.to v (l.k + 1) =
-    (c.put_words.ensures ∙ two) ∙ copies-next a.views.now l.views a.from a.to l.k (omega (arith, p)) l.invariant.4 in (
-      omega arith,
+    (c.put_words.ensures ∙ two) ∙ copies-next a.views.now l.views a.from a.to l.k (omega (arith, p)) l.invariant.3 in (
       ap length step ∙ copies_length a.views.now v a.to (length-view a.views.now a.from (omega (arith, p))) (l.k + 1) (omega
           (arith, p)),
+      l.invariant.1,
       l.invariant.2,
-      l.invariant.3,
       step,
     )
-
-pub shape_of-views : goal.shape_of-views
-shape_of-views c = c.loop-k.invariant.1
-
-pub returns : goal.returns
-returns c =
-    let e : c.loop-k.k ≡ c.args.n = omega arith in
-    rw (← e) c.loop-k.invariant.4

@@ -3,4 +3,4 @@ use Rattle.values.proofs.fresh.Goals as goal
 
 pub returns : goal.returns
 returns c = fresh-is _ _ _ _ _ c.step-step.ensures c.requires.2
-    c.all_blocks.ensures c.most.ensures
+    c.all_blocks.ensures c.max.ensures

@@ -12,9 +12,9 @@ returns-then-fits_open c = (
   pick_yes _ _ _ _ _ c.fits_open.ensures c.if-fits_open.true refl,
 )
 
-pub returns : goal.returns
+pub returns-else-fits_open : goal.returns-else-fits_open
 unfolding roomed
-returns c = (
+returns-else-fits_open c = (
   pick_no _ _ _ _ _ c.fits_open.ensures c.if-fits_open.false c.fresh.ensures,
   pick_no _ _ _ _ _ c.fits_open.ensures c.if-fits_open.false
       c.put_record.ensures.0,

@@ -7,6 +7,6 @@ use Rattle.whole.proofs.closing_piece.Goals as goal
 pub returns : goal.returns
 returns c =
     holds-closing _ _
-    (c.number.ensures ∙ ap number_is c.null_run.ensures)
-    (c.number-2.ensures ∙ ap number_is c.total_bytes_len.ensures)
-    (c.number-3.ensures ∙ ap number_is c.total_buffer_bytes_used.ensures) c.put_closing.ensures
+    (c.unwrap_or.ensures ∙ ap number_is c.null_run.ensures)
+    (c.unwrap_or-2.ensures ∙ ap number_is c.total_bytes_len.ensures)
+    (c.unwrap_or-3.ensures ∙ ap number_is c.total_buffer_bytes_used.ensures) c.put_closing.ensures

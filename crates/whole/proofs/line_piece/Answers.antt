@@ -14,11 +14,11 @@ row_piece-requires c = (
     c.items.ensures,
     c.if-items-k.false,
   )),
-  sym c.in-Row.is ∙ c.nth_item-it.ensures,
+  sym c.in-Row.is ∙ c.nth_item.ensures,
 )
 
 pub returns-in-Gap : goal.returns-in-Gap
 returns-in-Gap c =
     wrote-gap _ _ _
     (omega (arith, c.items.ensures, c.if-items-k.false))
-    _ (sym c.in-Gap.is ∙ c.nth_item-it.ensures) c.put_gap.ensures
+    _ (sym c.in-Gap.is ∙ c.nth_item.ensures) c.put_gap.ensures

@@ -5,5 +5,5 @@ use Rattle.null_bits.proofs.runs.all_bits.Goals as goal
 pub returns-then-valid : goal.returns-then-valid
 returns-then-valid c = (search rules, λ j h. rw c.if-valid.true (all_valid j h))
 
-pub returns : goal.returns
-returns c = (search rules, λ j h. rw c.if-valid.false (all-null j))
+pub returns-else-valid : goal.returns-else-valid
+returns-else-valid c = (search rules, λ j h. rw c.if-valid.false (all-null j))

@@ -2,11 +2,6 @@ use mathlib.Core.Path.{◌∙◌}
 use Rattle.null_bits.proofs.RunLaws.{column-map, column-none}
 use Rattle.null_bits.proofs.runs.copy_column.Goals as goal
 
-pub copy_bits-requires : goal.copy_bits-requires
-copy_bits-requires c =
-    let pre = c.requires in
-    (pre.0, pre.1, pre.2 c.if-mapped.true, pre.3)
-
 pub returns-then-mapped : goal.returns-then-mapped
 returns-then-mapped c = c.copy_bits.ensures ∙ column-map _ _ _ _ _ _ c.if-mapped.true
 

@@ -1,7 +1,5 @@
-use lib.Pow.{pow_pos, shr_le}
-use Rattle.null_bits.proofs.Laws.{shl_one as shl-one-is}
 use Rattle.null_bits.proofs.ByteLaws.{joined, joined-lt}
-use lib.ListN.{get_or, length-set}
+use lib.ListN.{get_or}
 use Prim.Native.Nat.{◌/◌, ◌%◌, ◌-◌}
 use Rattle.null_bits.proofs.ByteLaws.{byte-whole, byte_split}
 use native.Mathlib.Omega.{arith}
@@ -12,35 +10,11 @@ returns-then-pos-eq0 c =
     let a = c.args in
     byte-whole a.map.now a.row a.x (omega arith) c.if-pos-eq0.true (omega arith)
 
-pub overflow_sub-kept : goal.overflow_sub-kept
-overflow_sub-kept c =
-    let a = c.args in
-    rw (shl-one-is (a.row % 8) (omega arith)) (pow_pos (a.row % 8))
-
-pub overflow_sub-low : goal.overflow_sub-low
-overflow_sub-low c =
-    let a = c.args in
-    rw (shl-one-is (8 - a.row % 8) (omega arith)) (pow_pos (8 - a.row % 8))
-
-pub overflow_add-map : goal.overflow_add-map
-overflow_add-map c =
-    let a = c.args in
-    rw (joined (get_or a.map.now (a.row / 8) 0) a.x (a.row % 8) (8 - a.row % 8) (omega arith) (omega arith) (omega arith))
-    (omega (arith, joined-lt (get_or a.map.now (a.row / 8) 0) a.x (a.row % 8) (8 - a.row % 8) (omega arith)))
-
 pub overflow_cast-map-2 : goal.overflow_cast-map-2
 overflow_cast-map-2 c =
     let a = c.args in
     rw (joined (get_or a.map.now (a.row / 8) 0) a.x (a.row % 8) (8 - a.row % 8) (omega arith) (omega arith) (omega arith))
     (record { fits = joined-lt (get_or a.map.now (a.row / 8) 0) a.x (a.row % 8) (8 - a.row % 8) (omega arith) })
-
-pub overflow_cast-map-3 : goal.overflow_cast-map-3
-overflow_cast-map-3 c =
-    let a = c.args in
-    omega (arith, shr_le a.x (8 - a.row % 8))
-
-pub bounds-map-i-4 : goal.bounds-map-i-4
-bounds-map-i-4 c = simp length-set (omega arith)
 
 pub returns : goal.returns
 returns c =

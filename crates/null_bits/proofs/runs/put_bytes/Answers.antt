@@ -1,21 +1,17 @@
-use Rattle.null_bits.proofs.ByteLaws.{length-bytes, bytes-none, bytes-more}
-use lib.ListN.{length}
-use Prim.Native.Nat.{◌+◌}
-use mathlib.Core.Path.{◌≡◌, refl, ap, ◌∙◌}
+use mathlib.Core.Path.{◌≡◌, sym, ◌∙◌}
 use native.Mathlib.Omega.{arith}
+use Prim.Native.Nat.{◌+◌, ◌-◌}
+use lib.ListN.{length, take, drop, replicate, length-drop}
+use lib.Seq.{length-take-le}
+use Rattle.std.proofs.lemmas.List.{length-replicate}
+use Rattle.std.proofs.lemmas.Slice.{put_mid-paste}
+use Rattle.null_bits.proofs.ByteLaws.{bytes_filled}
 use Rattle.null_bits.proofs.runs.put_bytes.Goals as goal
-
-pub loop-k-init : goal.loop-k-init
-loop-k-init c = (omega arith, refl, bytes-none _ _ _)
-
-pub loop-k-preserved : goal.loop-k-preserved
-loop-k-preserved c =
-    let a = c.args in
-    let l = c.loop-k in
-    let step = bytes-more a.map.now l.map a.i a.x l.k l.invariant.2 in
-    (omega arith, ap length step ∙ length-bytes a.map.now a.i a.x (l.k + 1), step)
 
 pub returns : goal.returns
 returns c =
-    let e : c.loop-k.k ≡ c.args.bytes = omega arith in
-    rw (← e) c.loop-k.invariant.2
+    let a = c.args in
+    let n : a.i + a.bytes - a.i ≡ a.bytes = omega arith in
+    let part : length (take a.bytes (drop a.i a.map.now)) ≡ a.bytes = length-take-le a.bytes (drop a.i a.map.now) (simp length-drop (omega arith)) in
+    let is : c.fill.new.self ≡ replicate a.bytes a.x = rw (n, part) at (c.fill.ensures.after (λ y h. h)) in
+    put_mid-paste a.i _ a.map.now _ (replicate a.bytes a.x) a.bytes is (sym n) (sym (length-replicate a.bytes a.x)) ∙ bytes_filled a.map.now a.i a.x a.bytes (omega arith)

@@ -1,5 +1,3 @@
-use lib.Pow.{pow_pos}
-use Rattle.null_bits.proofs.Laws.{shl_one as shl-one-is}
 use Rattle.null_bits.proofs.ByteLaws.{joined, joined-lt, part_in}
 use Rattle.null_bits.specs.Runs.{put_bits}
 use lib.ListN.{get_or}
@@ -10,22 +8,6 @@ use Rattle.null_bits.proofs.runs.put_part.Goals as goal
 pub returns-then-n-eq0 : goal.returns-then-n-eq0
 unfolding put_bits
 returns-then-n-eq0 c = rw c.if-n-eq0.true
-
-pub overflow_sub-kept : goal.overflow_sub-kept
-overflow_sub-kept c =
-    let a = c.args in
-    rw (shl-one-is (a.row % 8) (omega arith)) (pow_pos (a.row % 8))
-
-pub overflow_sub-low : goal.overflow_sub-low
-overflow_sub-low c =
-    let a = c.args in
-    rw (shl-one-is a.n (omega arith)) (pow_pos a.n)
-
-pub overflow_add-map : goal.overflow_add-map
-overflow_add-map c =
-    let a = c.args in
-    rw (joined (get_or a.map.now (a.row / 8) 0) a.x (a.row % 8) a.n (omega arith) (omega arith) (omega arith))
-    (omega (arith, joined-lt (get_or a.map.now (a.row / 8) 0) a.x (a.row % 8) a.n (omega arith)))
 
 pub overflow_cast-map : goal.overflow_cast-map
 overflow_cast-map c =

@@ -1,9 +1,0 @@
--- What came lies within the input.
-use Rattle.std.proofs.Common.{length, ◌-◌, ◌≤◌}
-use Rattle.console.proofs.read_all.Given as goal
-
-abbrev pub invariant-loop-done : goal.invariant-loop-done
-invariant-loop-done g l = l.done ≤ length l.input
-
-abbrev pub decreases-loop-done : goal.decreases-loop-done
-decreases-loop-done g l = length l.initial.input - l.done

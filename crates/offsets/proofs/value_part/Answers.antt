@@ -1,5 +1,0 @@
-use Rattle.offsets.proofs.RowLaws.{cut-is}
-use Rattle.offsets.proofs.value_part.Goals as goal
-
-pub returns : goal.returns
-returns c = cut-is _ _ _ _ _ _ c.offset_at-a.ensures c.offset_at-e.ensures

@@ -1,6 +1,0 @@
-use Rattle.builder.specs.DoesLaws.{does-same}
-use Rattle.values.proofs.append_null.Goals as goal
-
-pub returns : goal.returns
-returns c = does-same _ _ _ _ _ _ _ _ _ _ c.anew.ensures
-    c.null_call.ensures

@@ -39,7 +39,7 @@ fn look<'a>(views: &'a [u8], table: &'a [Block], c: Column, row: usize) -> Seen
     let k = block_of(views, c, row);
     let b = tables::block_or(table, k, Block { start: 0, len: 0 });
     Seen {
-        count: table.len(),
+        count: tables::count(table),
         block: b,
     }
 }
@@ -284,7 +284,8 @@ pub fn check<'a>(
 ) -> Result<(), Refusal>
     ensures { result ≡ why_invalid (buffers views.now bytes.now table.now nulls.now) c }
 {
-    let places = places_with(views, nulls, c, table.len());
+    let n = tables::count(table);
+    let places = places_with(views, nulls, c, n);
     let k = stop_at(views, bytes, table, c, places);
-    check_with(views, nulls, c, table.len(), k)
+    check_with(views, nulls, c, n, k)
 }

@@ -1,6 +1,7 @@
 -- A table as its two number slices, so that what is known of the calls over these says it over records too. Assumes nothing.
 use Rattle.std.specs.Prelude.{◌≡◌, refl, Bool, true, false, List, [], ◌∷◌, ℕ, zero, suc, length, set, replicate, Ok, Err}
 use Rattle.std.proofs.Common.{sym, ap, subst, ◌∙◌, arith, eq-eqb, ne_eqb}
+use Rattle.std.proofs.Math.Seq.{set_out}
 use Rattle.bounds.specs.Refusals.{is_accepted, accepted, Why}
 use Rattle.column.specs.declared.Block.{Block}
 use Rattle.column.specs.Lent.{block, table_of, lent}
@@ -71,11 +72,18 @@ module _ (why : Builder → Why) (put : Builder → Builder) (s : State) (vs bs 
       → t' ≡ (left why put (held s vs bs ss ns ms ps)).lent.table
   table-yes t' e h = rw e h
 
+-- a record past the end is written nowhere
+pub set-none : (n : ℕ) (b : Block) (t : List Block) → n ≡ length t → set t n b ≡ t
+set-none n b t e = set_out t n b (omega (arith, e))
+
 -- the open block's record
 module _ (s : State) (t : List Block) where
   pub open_same : s.fill ≡ 0 → t ≡ open_table s t
   unfolding open_table
   open_same h = rw (eq-eqb s.fill 0 h)
+
+  pub open_none : (n : ℕ) (b : Block) → s.fill ≡ 0 → n ≡ length t → set t n b ≡ open_table s t
+  open_none n b h e = set-none n b t e ∙ open_same h
 
   pub open-some : (s.fill ≡ 0 → ⊥) → set t s.blocks (block s.base s.fill) ≡ open_table s t
   unfolding open_table

@@ -190,6 +190,7 @@ fn spot_row(s: State, views: &[u8], bytes: &[u8], table: &[Block], r: usize) -> 
 }
 
 // Where a row's value stands while it is built, or why it is refused.
+#[inline(always)]
 fn locate(
     s: State,
     views: &[u8],

@@ -23,7 +23,7 @@ pub fn mark_at<'a>(
 {
     let k = blocks::block_of(views, c, row);
     let block = tables::block_or(table, k, Block { start: 0, len: 0 });
-    let count = table.len();
+    let count = tables::count(table);
     marks::mark_with(views, bytes, nulls, c, row, Seen { count, block })
 }
 
@@ -37,7 +37,7 @@ pub fn count_marks<'a>(
 ) -> Result<Tally, Refusal>
     ensures { result ≡ marks_of (buffers views.now bytes.now table.now nulls.now) c }
 {
-    if !column::fits_with(views, nulls, c, table.len()) {
+    if !column::fits_with(views, nulls, c, tables::count(table)) {
         return Err(Refusal::Fit);
     }
     let mut t = Tally::default();

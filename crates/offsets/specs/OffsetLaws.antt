@@ -1,5 +1,5 @@
 -- Offsets as the code reads and judges them, and rows judged by the kind. The width is a parameter throughout. Assumes nothing.
-use Rattle.std.specs.Prelude.{◌≡◌, Bool, not, ◌&&◌, ◌||◌, List, eqb, length}
+use Rattle.std.specs.Prelude.{◌≡◌, Bool, not, ◌&&◌, ◌||◌, List, eqb, length, Err}
 use Rattle.std.proofs.Math.Path.{refl, sym, ap, subst}
 use Rattle.std.proofs.Common.{◌∙◌, true≢false, not-suc-le-zero, zero-add, add-zero}
 use Rattle.std.proofs.Math.Bool.{true, false}
@@ -264,6 +264,14 @@ module _ (w : ℕ) (s : Source) (k : Kind) where
           → refuse NotUtf8 (not (a && b)) y ≡ why_kinds w s k n (refuse NotUtf8 (not b) y)
       by true b e = e
       by false b e = e
+
+  pub kinds-none : (n : ℕ) (y : Why) → ((j : ℕ) → j < n → kind_at w s k j ≡ true) → y ≡ why_kinds w s k n y
+  unfolding refuse
+  kinds-none n y h = rw (kinds-all n h) at (kinds-are n y)
+
+  pub kinds-bad : (i n : ℕ) (y : Why) → i < n → kind_at w s k i ≡ false → Err NotUtf8 ≡ why_kinds w s k n y
+  unfolding refuse
+  kinds-bad i n y l b = rw (← kinds-stop i n l b) at (kinds-are n y)
 
   pub kinds-good : (n : ℕ) (y : Why) → is_accepted (why_kinds w s k n y) ≡ true → ((j : ℕ) → j < n → kind_at w s k j ≡ true) × (is_accepted y ≡ true)
   unfolding why_kinds

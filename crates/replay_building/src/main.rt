@@ -10,7 +10,7 @@ mod held;
 
 use call::Question;
 use held::Builder;
-use lists::{Over, Room, Score, Stop};
+use lists::{Buffered, Over, Room, Score, Stop};
 use std::io::Read;
 use std::rt::Files;
 use std::{fs, io};
@@ -60,11 +60,11 @@ fn replay<R: Read>(from: &mut R, over: Over, t: &mut Tally) -> io::Result<bool> 
 
 // The list, over number slices or over records.
 fn list(rt: &(impl Files + Print), over: Over) -> io::Result<()> {
-    let Ok(mut from) = fs::open(rt, "building.bin") else {
+    let Ok(file) = fs::open(rt, "building.bin") else {
         return println!(rt; "no building.bin");
     };
     let mut t = Tally::default();
-    let torn = replay(&mut from, over, &mut t)?;
+    let torn = replay(&mut Buffered::new(file), over, &mut t)?;
     println!(rt; "groups={}", t.groups)?;
     println!(rt; "calls={}", t.calls.asked)?;
     println!(rt; "refused={}", t.refused)?;

@@ -3,7 +3,7 @@
 #![tactic(auto)]
 
 use growth::Growth;
-use lists::{Few, Stop};
+use lists::{Buffered, Few, Stop};
 use std::io::Read;
 use std::rt::Files;
 use std::{fs, io};
@@ -92,7 +92,7 @@ fn pair<R: Read>(from: &mut R, t: &mut Tally) -> Result<(), Stop> {
 }
 
 // Replays a list record by record.
-fn replay<P: Files + Print, F: Fn(&mut P::File, &mut Tally) -> Result<(), Stop>>(
+fn replay<P: Files + Print, F: Fn(&mut Buffered<P::File>, &mut Tally) -> Result<(), Stop>>(
     rt: &P,
     name: &str,
     file: &str,
@@ -100,14 +100,15 @@ fn replay<P: Files + Print, F: Fn(&mut P::File, &mut Tally) -> Result<(), Stop>>
 ) -> io::Result<()>
     requires { F.IsAlwaysCallable turn }
 {
-    let Ok(mut from) = fs::open(rt, file) else {
-        return println!(rt; "{name} absent");
+    print!(rt; "{name}")?;
+    let Ok(from) = fs::open(rt, file) else {
+        return println!(rt; " absent");
     };
     let mut t = Tally::default();
-    let torn = u64::from(lists::replay(&mut from, &mut t, turn)?);
+    let torn = u64::from(lists::replay(&mut Buffered::new(from), &mut t, turn)?);
     let right = t.right;
     let wrong = t.wrong;
-    println!(rt; "{name} right={right} wrong={wrong} torn={torn}")
+    println!(rt; " right={right} wrong={wrong} torn={torn}")
 }
 
 fn main(rt: HostRuntime) -> io::Result<()> {

@@ -7,7 +7,7 @@
 use bounds::Refusal;
 use codes::Mark;
 use column::{Buffers, Column};
-use lists::{Few, Room, Score, Stop};
+use lists::{Buffered, Few, Room, Score, Stop};
 use std::io::Read;
 use std::{fs, io};
 
@@ -88,14 +88,14 @@ fn column<R: Read>(from: &mut R, t: &mut Tally) -> Result<(), Stop> {
 
 fn main(rt: HostRuntime) -> io::Result<()> {
     let mut t = Tally::default();
-    let Ok(mut from) = fs::open(&rt, "texts.bin") else {
+    let Ok(texts) = fs::open(&rt, "texts.bin") else {
         return println!(rt; "no texts.bin");
     };
-    let torn_text = lists::replay(&mut from, &mut t, text)?;
-    let Ok(mut from) = fs::open(&rt, "columns.bin") else {
+    let torn_text = lists::replay(&mut Buffered::new(texts), &mut t, text)?;
+    let Ok(columns) = fs::open(&rt, "columns.bin") else {
         return println!(rt; "no columns.bin");
     };
-    let torn_column = lists::replay(&mut from, &mut t, column)?;
+    let torn_column = lists::replay(&mut Buffered::new(columns), &mut t, column)?;
     println!(rt; "texts={}", t.texts)?;
     println!(rt; "others={}", t.others)?;
     println!(rt; "codes={}", t.codes)?;

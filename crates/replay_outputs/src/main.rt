@@ -5,7 +5,7 @@
 
 use bounds::Refusal;
 use column::{Buffers, Column};
-use lists::{Few, Lent, Over, Room, Score, Stop};
+use lists::{Buffered, Few, Lent, Over, Room, Score, Stop};
 use output_blocks::Layout;
 use std::io::Read;
 use std::rt::Files;
@@ -187,18 +187,18 @@ fn conversion<R: Read>(from: &mut R, t: &mut Tally) -> Result<(), Stop> {
 }
 
 // Replays the list of that name; says so where there is none.
-fn replay<P: Files + Print, F: Fn(&mut P::File, &mut Tally) -> Result<(), Stop>>(
+fn replay<P: Files + Print, F: Fn(&mut Buffered<P::File>, &mut Tally) -> Result<(), Stop>>(
     rt: &P,
     file: &str,
     turn: F,
 ) -> io::Result<()>
     requires { F.IsAlwaysCallable turn }
 {
-    let Ok(mut from) = fs::open(rt, file) else {
+    let Ok(from) = fs::open(rt, file) else {
         return println!(rt; "no list");
     };
     let mut t = Tally::default();
-    let torn = lists::replay(&mut from, &mut t, turn)?;
+    let torn = lists::replay(&mut Buffered::new(from), &mut t, turn)?;
     println!(rt; "records={}", t.records.asked)?;
     println!(rt; "accepted={}", t.accepted)?;
     println!(rt; "wrong={}", t.records.wrong)?;

@@ -9,7 +9,7 @@ mod question;
 mod said;
 
 use column::{Buffers, Column};
-use lists::{Few, Room, Score, Stop};
+use lists::{Buffered, Few, Room, Score, Stop};
 use question::{Call, Question};
 use reading::Cursor;
 use said::Said;
@@ -178,11 +178,11 @@ fn group<R: Read>(from: &mut R, t: &mut Tally) -> Result<(), Stop> {
 }
 
 fn main(rt: HostRuntime) -> io::Result<()> {
-    let Ok(mut from) = fs::open(&rt, "reading.bin") else {
+    let Ok(file) = fs::open(&rt, "reading.bin") else {
         return println!(rt; "no reading.bin");
     };
     let mut t = Tally::default();
-    let torn = lists::replay(&mut from, &mut t, group)?;
+    let torn = lists::replay(&mut Buffered::new(file), &mut t, group)?;
     println!(rt; "groups={}", t.groups)?;
     println!(rt; "questions={}", t.questions.asked)?;
     println!(rt; "records={}", t.records)?;

@@ -1,4 +1,5 @@
-// The block table lent as a slice of records: how many there are, one read, one written. What stands over such a table asks no more of it than this.
+// The block table lent as a slice of records: how many there are, one read, one written. Reading, comparison, the check and the marks over
+// such a table ask no more of it than this.
 #![tactic(auto)]
 
 ghost use Rattle.std.specs.Prelude.{◌≡◌, length, get_or, set};

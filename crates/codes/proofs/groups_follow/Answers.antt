@@ -4,18 +4,16 @@ use Rattle.std.proofs.lemmas.List.{take_rest}
 use Rattle.codes.specs.Recogniser.{groups_follow}
 use Rattle.codes.proofs.Laws.{follow-end, follow-last, follow-other, follow-no, follow-on}
 use Rattle.codes.proofs.groups_follow.Goals as goal
-use Rattle.codes.proofs.groups_follow.Goals.{then-b-ne45-via-then-b-ne45, then-b-ne45-via-else-b-ne45+then-not-is_group}
 
 pub returns-in_default : goal.returns-in_default
 returns-in_default c = follow-end (2 - c.loop.counter) _ c.in_default.ensures.cases ∙ c.loop.invariant
 
 pub returns-then-b-ne45 : goal.returns-then-b-ne45
-returns-then-b-ne45 c =
-    elim c.then-b-ne45.branch [
-      | then-b-ne45-via-then-b-ne45 w ↦ follow-other _ _ _ c.in-Some.ensures.cases.0 (2 - c.loop.counter) w.if-b-ne45.true ∙ c.loop.invariant
-      | then-b-ne45-via-else-b-ne45+then-not-is_group w ↦
-          follow-no _ _ _ c.in-Some.ensures.cases.0 _ c.leading-d.ensures.0 (2 - c.loop.counter) (sym w.is_group.ensures ∙ w.if-not-is_group.true) ∙ c.loop.invariant
-    ]
+returns-then-b-ne45 c = follow-other _ _ _ c.in-Some.ensures.cases.0 (2 - c.loop.counter) c.if-b-ne45.true ∙ c.loop.invariant
+
+pub returns-then-not-is_group : goal.returns-then-not-is_group
+returns-then-not-is_group c =
+    follow-no _ _ _ c.in-Some.ensures.cases.0 _ c.leading-d.ensures.0 (2 - c.loop.counter) (sym c.is_group.ensures ∙ c.if-not-is_group.true) ∙ c.loop.invariant
 
 pub loop-preserved : goal.loop-preserved
 loop-preserved c =

@@ -113,14 +113,16 @@ pub fn conforms(s: &[u8]) -> bool
     ensures { result ≡ spec.conforms s.now }
 {
     let n = s.len();
-    // Both bounds by one test: with a match of two ranges the mark of a text that is no code took 1.3 times as long.
-    if n < 4 || 24 < n {
-        return false;
-    }
-    if n < 9 {
-        is_parted(s)
-    } else {
-        is_parted_long(s)
+    // Both bounds by one test: by two ranges the mark of a text that is no code took 1.3 times as long.
+    match n {
+        4..=24 => {
+            if n < 9 {
+                is_parted(s)
+            } else {
+                is_parted_long(s)
+            }
+        }
+        _ => false,
     }
 }
 

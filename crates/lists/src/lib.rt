@@ -1,5 +1,5 @@
 // The fixed lists as the programs that replay them read them: words, columns and buffers, and what is counted. Instruments: their contracts say no more
-// than that they are safe and end. No heap is there, so a list is read word by word and buffers are arrays.
+// than that they are safe and end. No heap is there, so buffers, the reader's too, are arrays, and a list is taken word by word.
 #![tactic(auto)]
 
 ghost use Rattle.std.specs.Prelude.{◌≤◌, length};
@@ -39,7 +39,7 @@ pub fn read_full<R: Read>(from: &mut R, buf: &mut [u8]) -> io::Result<usize>
     Ok(done)
 }
 
-// A list's reader, some thousand bytes at a time: read from its file word by word, a list took twice as long.
+// A list's reader, some thousand bytes at a time: read from its file word by word, a list took 5 to 10 times as long.
 #[derive(Drop)]
 pub struct Buffered<R> {
     from: R,

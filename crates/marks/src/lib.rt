@@ -1,5 +1,5 @@
 // The mark of each row of a column under the code profile, and how many rows have each mark.
-// Every call over a column tests its own inputs: none asks anything of its caller. A pass over rows asks that its tally has room (`Tally::with`).
+// Every public call over a column tests its own inputs: none asks anything of its caller. `Tally::with` asks that the tally has room.
 #![tactic(auto)]
 
 ghost use Rattle.std.specs.Prelude.{◌≡◌, true, List, ◌+◌, ◌*◌, ◌<◌, length};

@@ -1,6 +1,5 @@
 -- `codes::conforms` meets its contract. Assumes nothing.
-use Rattle.std.proofs.Common.{◌≡◌, false, ◌⊎◌, inl, inr, List, ℕ, ◌≤◌, ◌<◌, length, arith}
-use Rattle.codes.specs.Recogniser.{conforms}
+use Rattle.std.proofs.Common.{arith}
 use Rattle.codes.proofs.Laws.{code-short, code-long, code-parted}
 use Rattle.codes.proofs.conforms.Goals as goal
 
@@ -10,9 +9,8 @@ returns-then-n-lt9 c = code-parted _ _ (omega arith) (omega arith) c.is_parted.e
 pub returns-else-n-lt9 : goal.returns-else-n-lt9
 returns-else-n-lt9 c = code-parted _ _ (omega arith) (omega arith) c.is_parted_long.ensures
 
-outside : (x : List ℕ) → (length x < 4) ⊎ (4 ≤ length x × 24 < length x) → false ≡ conforms x
-outside x (inl h) = code-short x h
-outside x (inr h) = code-long x h.1
+pub returns-in_default : goal.returns-in_default
+returns-in_default c = code-short _ (omega arith)
 
-pub returns-then-n-lt4 : goal.returns-then-n-lt4
-returns-then-n-lt4 c = outside _ c.then-n-lt4.either
+pub returns-in_default-2 : goal.returns-in_default-2
+returns-in_default-2 c = code-long _ (omega arith)

@@ -39,21 +39,24 @@ pub fn read_full<R: Read>(from: &mut R, buf: &mut [u8]) -> io::Result<usize>
     Ok(done)
 }
 
+// The bytes that a list's reader holds.
+const HELD: usize = 4096;
+
 // A list's reader, some thousand bytes at a time: read from its file word by word, a list took 5 to 10 times as long.
 #[derive(Drop)]
 pub struct Buffered<R> {
     from: R,
-    bytes: [u8; 4096],
+    bytes: [u8; HELD],
     at: usize,
     end: usize,
-    ghost in_room: { (at ≤ end) × (end ≤ 4096) },
+    ghost in_room: { (at ≤ end) × (end ≤ length bytes) },
 }
 
 impl<R: Read> Buffered<R> {
     pub fn new(from: R) -> Buffered<R> {
         Buffered {
             from,
-            bytes: [0; 4096],
+            bytes: [0; HELD],
             at: 0,
             end: 0,
         }
